@@ -87,9 +87,9 @@ static struct {
     uint32_t message, still;                 /* the word that these write, and how long it stood still */
 } owner = {.forwarder = SMMUQ_EMPTY};
 
-/* A command as the hardware gets it: a CMD_SYNC asks for an MSI whose data is how many commands were shown with it. */
-static smmuq_command signalled(smmuq_command command) {
-    const smmuq_fields fields = {.opcode = SMMUQ_OPCODE_CMD_SYNC, .cs = 1, .data = owner.shown, .address = (uintptr_t)&owner.message};
+/* A command as the hardware gets it: a CMD_SYNC asks for an MSI with these data. */
+static smmuq_command signalled(smmuq_command command, uint32_t data) {
+    const smmuq_fields fields = {.opcode = SMMUQ_OPCODE_CMD_SYNC, .cs = 1, .data = data, .address = (uintptr_t)&owner.message};
     if (owner.messages && (command.lo & 0xff) == SMMUQ_OPCODE_CMD_SYNC)
         check(smmuq_encode(&fields, &command), "encode");
     return command;
@@ -100,7 +100,7 @@ static void show(const smmuq_command *run, const smmuq_placement *placement) {
     uint32_t place;
     for (place = 0; place < placement->count; place++) {
         owner.shown++;
-        hardware.queue[(placement->slot + place) % SLOTS] = signalled(run[place]);
+        hardware.queue[(placement->slot + place) % SLOTS] = signalled(run[place], placement->message + place);
     }
     set(&hardware.prod, placement->prod);
 }

@@ -38,7 +38,10 @@ static void misuse_words(void) {
     WANT(smmuq_text(UNKNOWN.lo, UNKNOWN.hi, text, sizeof text, &length), SMMUQ_ILL_OPCODE);
     WANT(smmuq_range(1, 2, 0, 0, room, 8, &count), SMMUQ_NO_PAGES);
     WANT(smmuq_range(1, 2, 0x10000, 33, room, 1, &count), SMMUQ_SHORT_BUFFER);
-    WANT(smmuq_detach(5, room, 2, &count), SMMUQ_SHORT_BUFFER);
+    WANT(smmuq_detach(2, 0, 0, 0, 5, room, 1, &count), SMMUQ_SHORT_BUFFER);
+    WANT(smmuq_detach_endpoint(1 << 10, 0, 0, 0, 5, 1, room, 0, &count), SMMUQ_SHORT_BUFFER);
+    WANT(smmuq_detach_endpoint(1 << 10, 0, 0, 0, 5, 2, room, 2, &count), SMMUQ_BAD_FIELD);
+    WANT(smmuq_nested_invalidation(2, 0, 0, 0, 0x10000, room, 2, &count), SMMUQ_BAD_FIELD);
     WANT(smmuq_status_text(SMMUQ_RING_FULL, text, 8, &length), SMMUQ_SHORT_BUFFER);
     WANT(smmuq_status_text(0x7fff, text, sizeof text, &length), SMMUQ_BAD_FIELD);
     WANT(smmuq_status_text(SMMUQ_RING_FULL, text, sizeof text, &length), SMMUQ_OK);

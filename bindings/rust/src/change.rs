@@ -49,12 +49,8 @@ pub enum Change {
         asids: Asids,
         pages: Pages,
     },
-    /// With `nested` all of stage 1 of the VMID follows, as a nested one's parent needs.
-    Stage2 {
-        vmid: u16,
-        nested: bool,
-        pages: Pages,
-    },
+    /// Where stage 1 of the VMID is nested in it, [`IdRegisters::nested_invalidation`] follows.
+    Stage2 { vmid: u16, pages: Pages },
     /// The hypervisor's.
     El2 { asids: Asids, pages: Pages },
     /// What ATS handed out to an endpoint.
@@ -96,13 +92,8 @@ impl Change {
                 (words.asids, words.asid) = asids.words();
                 pages.put_into(&mut words);
             }
-            Change::Stage2 {
-                vmid,
-                nested,
-                pages,
-            } => {
+            Change::Stage2 { vmid, pages } => {
                 (words.kind, words.vmid) = (4, vmid.into());
-                words.nested = nested.into();
                 pages.put_into(&mut words);
             }
             Change::El2 { asids, pages } => {
@@ -164,15 +155,76 @@ impl IdRegisters {
             sys::smmuq_invalidation(idr0, idr1, idr3, idr5, &words, buffer, length, count)
         })
     }
-}
 
-impl Command {
-    /// The three commands that end the use of a stream: CFGI_STE, CFGI_CD_ALL, ATC_INV. A real SMMU may complete them in any
-    /// order up to a CMD_SYNC: send it the first two in a batch, and the third in another once that is done.
-    pub fn detaching(sid: u32) -> Result<[Command; 3], Error> {
-        let (mut commands, mut count) = ([Command::default(); 3], 0);
+    /// What follows a change of stage 2 under which stage 1 of the VMID is nested, and only once the CMD_SYNC behind the
+    /// commands of [`IdRegisters::invalidation`] for it is complete: TLBI_NH_ALL of the VMID, or none for an SMMU without
+    /// stage 1. An SMMU may carry commands out in any order up to a CMD_SYNC.
+    pub fn nested_invalidation(self, vmid: u16) -> Result<Option<Command>, Error> {
+        let IdRegisters {
+            idr0,
+            idr1,
+            idr3,
+            idr5,
+        } = self;
+        let mut command = Command::default();
+        let mut count = 0;
+        // SAFETY: room for one command, and a live answer.
+        done(unsafe {
+            let vmid = vmid.into();
+            sys::smmuq_nested_invalidation(
+                idr0,
+                idr1,
+                idr3,
+                idr5,
+                vmid,
+                &mut command,
+                1,
+                &mut count,
+            )
+        })?;
+        Ok((count == 1).then_some(command))
+    }
+
+    /// The commands for the configuration of a stream whose use ends: CFGI_STE, and CFGI_CD_ALL if the SMMU has stage 1.
+    pub fn detaching(self, sid: u32) -> Result<Vec<Command>, Error> {
+        let IdRegisters {
+            idr0,
+            idr1,
+            idr3,
+            idr5,
+        } = self;
         // SAFETY: a buffer of the length that is passed, and a live answer.
-        done(unsafe { sys::smmuq_detach(sid, commands.as_mut_ptr(), commands.len(), &mut count) })?;
-        Ok(commands)
+        listed(|buffer, length, count| unsafe {
+            sys::smmuq_detach(idr0, idr1, idr3, idr5, sid, buffer, length, count)
+        })
+    }
+
+    /// The command for what its endpoint caches, to be sent only once the CMD_SYNC behind those of
+    /// [`IdRegisters::detaching`] is complete: ATC_INV, or none where the endpoint or the SMMU has no ATS.
+    pub fn detaching_endpoint(self, sid: u32, ats: bool) -> Result<Option<Command>, Error> {
+        let IdRegisters {
+            idr0,
+            idr1,
+            idr3,
+            idr5,
+        } = self;
+        let mut command = Command::default();
+        let mut count = 0;
+        // SAFETY: room for one command, and a live answer.
+        done(unsafe {
+            let ats = ats.into();
+            sys::smmuq_detach_endpoint(
+                idr0,
+                idr1,
+                idr3,
+                idr5,
+                sid,
+                ats,
+                &mut command,
+                1,
+                &mut count,
+            )
+        })?;
+        Ok((count == 1).then_some(command))
     }
 }

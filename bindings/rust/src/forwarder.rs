@@ -39,8 +39,14 @@ pub fn forwarder_ring(
 /// A hardware command queue, as its driver reaches it. A driver's own type has it: the memory and the registers are its own,
 /// and so are the barriers.
 pub trait Hardware {
-    /// Writes a command into a slot of the queue's memory.
-    fn write(&mut self, slot: u32, command: Command);
+    /// Writes a command into a slot of the queue's memory. Of a CMD_SYNC it may write one in its place that asks for an MSI
+    /// with `message` as data.
+    fn write(&mut self, slot: u32, command: Command, message: u32);
+    /// While the queue is disabled for a restart: a CMD_SYNC in this slot that asks for an MSI asks for one with `message` as
+    /// data from now on. For a queue without MSIs there is nothing to do.
+    fn renew(&mut self, slot: u32, message: u32) {
+        let _ = (slot, message);
+    }
     /// Writes SMMU_CMDQ_PROD, behind a write barrier.
     fn show(&mut self, prod: u32);
     /// Reads SMMU_GERROR.
@@ -112,7 +118,7 @@ impl Forwarder {
     /// The most commands that one call shows.
     pub const MOST: usize = 64;
 
-    /// Takes the commands that are ready and shows them to the hardware, by one write of PROD. Their slots in the ring are
+    /// Takes the commands that are ready and shows them to the hardware. Their slots in the ring are
     /// free from then on.
     pub fn forward(&mut self, hardware: &mut impl Hardware) -> Result<Forwarded, Error> {
         let mut placement = sys::Placement::default();
@@ -128,7 +134,8 @@ impl Forwarder {
         match status {
             0 => {
                 for (offset, &command) in (0..placement.count).zip(&self.run) {
-                    hardware.write((placement.slot + offset) % self.slots, command);
+                    let slot = (placement.slot + offset) % self.slots;
+                    hardware.write(slot, command, placement.message.wrapping_add(offset));
                 }
                 hardware.show(placement.prod);
                 Ok(Forwarded::Shown(placement.count))
@@ -161,10 +168,10 @@ impl Forwarder {
         }
     }
 
-    /// Settles what the hardware has consumed by an MSI, with no register read, and returns how many more these are. In place
-    /// of a CMD_SYNC that [`Hardware::write`] gets it may write one with an MSI, whose data is the count of all commands that it
-    /// ever got, with that one, modulo 2^32; `data` is the word that this wrote. What is known already, or wasn't shown, counts
-    /// 0. Errors are found by [`Forwarder::poll`] alone.
+    /// Settles what the hardware has consumed by an MSI, with no register read, and returns how many more these are. `data` is
+    /// the word that it wrote: what [`Hardware::write`] or [`Hardware::renew`] got for its CMD_SYNC. What is known already, is of
+    /// before a restart, or wasn't shown, counts 0. Errors are found by [`Forwarder::poll`] alone, and until one is
+    /// acknowledged no MSI is heard.
     pub fn poll_msi(&mut self, data: u32) -> Result<u32, Error> {
         let mut consumed = 0;
         // SAFETY: a live handle and a live answer.
@@ -188,11 +195,12 @@ impl Forwarder {
             sys::smmuq_forwarder_acknowledge(self.handle.at(), gerrorn, remedy as u32, &mut told)
         })?;
         if remedy == Remedy::Replace {
-            hardware.write(told.slot, Command::SYNC);
+            hardware.write(told.slot, Command::SYNC, 0);
         }
         hardware.acknowledge(told.gerrorn);
         Ok(told.command)
     }
+
     /// Begins the hardware's queue again: it reads again what isn't known to be consumed, whatever the last poll found.
     pub fn restart(&mut self, hardware: &mut impl Hardware) -> Result<(), Error> {
         hardware.disable();
@@ -200,6 +208,11 @@ impl Forwarder {
         let gerrorn = hardware.gerrorn();
         // SAFETY: a live handle and a live answer.
         done(unsafe { sys::smmuq_forwarder_restart(self.handle.at(), gerrorn, &mut told) })?;
+        let in_flight = (told.prod + 2 * self.slots - told.cons) % (2 * self.slots);
+        for offset in 0..in_flight {
+            let slot = (told.cons + offset) % self.slots;
+            hardware.renew(slot, told.message.wrapping_add(offset));
+        }
         hardware.enable(told.prod, told.cons);
         Ok(())
     }

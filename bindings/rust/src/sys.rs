@@ -142,8 +142,6 @@ pub struct Change {
     pub ttl: u32,
     pub everything: u32,
     pub most_commands: u32,
-    pub nested: u32,
-    pub unused: u32,
     pub first: u64,
     pub length: u64,
 }
@@ -234,6 +232,7 @@ pub struct Placement {
     pub slot: u32,
     pub count: u32,
     pub prod: u32,
+    pub message: u32,
 }
 
 /// `smmuq_acknowledgement`.
@@ -251,6 +250,7 @@ pub struct Acknowledgement {
 pub struct Restart {
     pub prod: u32,
     pub cons: u32,
+    pub message: u32,
 }
 
 /// `smmuq_batch_outcome`.
@@ -287,7 +287,37 @@ unsafe extern "C" {
         length: usize,
         count: *mut usize,
     ) -> u32;
-    pub fn smmuq_detach(sid: u32, buffer: *mut Command, length: usize, count: *mut usize) -> u32;
+    pub fn smmuq_nested_invalidation(
+        idr0: u32,
+        idr1: u32,
+        idr3: u32,
+        idr5: u32,
+        vmid: u32,
+        buffer: *mut Command,
+        length: usize,
+        count: *mut usize,
+    ) -> u32;
+    pub fn smmuq_detach(
+        idr0: u32,
+        idr1: u32,
+        idr3: u32,
+        idr5: u32,
+        sid: u32,
+        buffer: *mut Command,
+        length: usize,
+        count: *mut usize,
+    ) -> u32;
+    pub fn smmuq_detach_endpoint(
+        idr0: u32,
+        idr1: u32,
+        idr3: u32,
+        idr5: u32,
+        sid: u32,
+        ats: u32,
+        buffer: *mut Command,
+        length: usize,
+        count: *mut usize,
+    ) -> u32;
     pub fn smmuq_text(lo: u64, hi: u64, buffer: *mut u8, length: usize, written: *mut usize)
         -> u32;
     pub fn smmuq_status_text(

@@ -99,7 +99,6 @@ fn what_an_endpoint_holds() -> Result<(), Error> {
 fn what_is_refused() {
     let past_end = Change::Stage2 {
         vmid: 1,
-        nested: false,
         pages: Pages {
             bytes: Bytes::From {
                 first: (1 << 52) - 1,
@@ -115,7 +114,6 @@ fn what_is_refused() {
     };
     let change = Change::Stage2 {
         vmid: 1,
-        nested: true,
         pages: pages(0x1000, Changed::Leaves),
     };
     assert_eq!(without_stages.invalidation(change), Err(Error::Unsupported));
@@ -127,10 +125,35 @@ fn what_is_refused() {
 
 #[test]
 fn a_stream_leaves() -> Result<(), Error> {
-    let texts = Command::detaching(5)?.map(|command| command.text());
-    let names = texts.map(|text| text.unwrap_or_default());
-    assert!(names[0].starts_with("CFGI_STE ") && names[0].contains("sid=5"));
-    assert!(names[1].starts_with("CFGI_CD_ALL "));
-    assert!(names[2].starts_with("ATC_INV "));
+    let with_ats = IdRegisters {
+        idr0: SMMU.idr0 | 1 << 10,
+        ..SMMU
+    };
+    let first = with_ats.detaching(5)?;
+    assert_eq!(first.len(), 2);
+    assert!(first[0].text()?.starts_with("CFGI_STE ") && first[0].text()?.contains("sid=5"));
+    assert!(first[1].text()?.starts_with("CFGI_CD_ALL "));
+    let then = with_ats
+        .detaching_endpoint(5, true)?
+        .ok_or(Error::Unsupported)?;
+    assert!(then.text()?.starts_with("ATC_INV "));
+    assert_eq!(with_ats.detaching_endpoint(5, false)?, None);
+    let without_ats = IdRegisters {
+        idr0: SMMU.idr0 & !(1 << 10),
+        ..SMMU
+    };
+    assert_eq!(without_ats.detaching_endpoint(5, true)?, None);
+    Ok(())
+}
+
+#[test]
+fn stage_1_follows_stage_2() -> Result<(), Error> {
+    let all_of_the_machine = Command::new(0x0000_0001_0000_0010, 0);
+    assert_eq!(SMMU.nested_invalidation(1)?, Some(all_of_the_machine));
+    let without_stage_1 = IdRegisters {
+        idr0: SMMU.idr0 & !2,
+        ..SMMU
+    };
+    assert_eq!(without_stage_1.nested_invalidation(1)?, None);
     Ok(())
 }

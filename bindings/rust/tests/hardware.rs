@@ -37,7 +37,7 @@ impl Played {
 }
 
 impl Hardware for Played {
-    fn write(&mut self, slot: u32, command: Command) {
+    fn write(&mut self, slot: u32, command: Command, _message: u32) {
         self.queue[slot as usize] = command;
     }
 

@@ -30,6 +30,7 @@ smmu_with range_invalidation ats wide_ids substream_bits = record {
   ats = ats;
   pri = true;
   hypervisor = true;
+  stalls = true;
   wide_asids = wide_ids;
   wide_vmids = wide_ids;
   substream_bits = substream_bits_of substream_bits;

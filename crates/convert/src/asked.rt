@@ -39,6 +39,7 @@ impl<'a> Asked<'a> {
             ats: self.ats,
             pri: true,
             hypervisor: true,
+            stalls: true,
             wide_asids: self.wide_ids,
             wide_vmids: self.wide_ids,
             substream_bits: substream_bits(self.substream_bits),

@@ -2,3 +2,4 @@ pub mod GoingOn
 pub mod OneBatch
 pub mod LegalWords
 pub mod OrderLemmas
+pub mod ChangeLemmas

@@ -1,5 +1,5 @@
 -- What a sender is told of what it reserved, and what it reserves behind that.
-use Rattle.std.proofs.Common.{◌≡◌, ℕ, List, ◌∷◌, ◌++◌, map, Some, true, sym, ap, ◌∙◌, subst, append_assoc, arith}
+use Rattle.std.proofs.Common.{◌≡◌, ℕ, List, ◌∷◌, ◌++◌, map, Some, None, true, false, sym, ap, ◌∙◌, subst, append_assoc, arith}
 use Rattle.cmdcodec.specs.declared.raw.Raw.{Raw}
 use Rattle.ring.specs.Runs.{Sender, Won, Run, taken_as, world, joined, advanced, Begins, EveryRun, NumberedInOrder, TellsWhatIsAdvanced, TellsTheOutcomes}
 use Rattle.ring.specs.table.Histories.{IsHistory, AreApplied}
@@ -8,12 +8,13 @@ use Rattle.ring.specs.sender.Reservations.{ReservationValue, reserved_number}
 use Rattle.ringcore.specs.machine.StepAnswers.{next_number}
 use Rattle.ring.specs.sender.GoingOn.{WentOn}
 use Rattle.ring.specs.sender.Sending.{IsSent}
-use Rattle.detachment.specs.Commands.{endpoint_words}
+use Rattle.detachment.specs.Commands.{Stream, has_ats, endpoint_words}
 use Rattle.detachment.specs.Order.{HasReserved, HasApplied, IsConfiguredIn, IsLeavingIn}
-use Rattle.detachment.specs.Values.{ConfigurationValue, EndpointValue, IsConfiguring, IsConfigured, IsLeaving, IsDetached}
+use Rattle.detachment.specs.Values.{ConfigurationValue, EndpointValue, configuration_value, detached_value, IsOwn, IsConfiguring, IsConfigured, IsLeaving, IsDetached}
+use Rattle.detachment.specs.Changes.{ChangeValue, IsChanging, IsChanged}
 use Rattle.ring.proofs.SenderLemmas.GoingOn.{on_again}
 use Rattle.detachment.proofs.GoingOn.{Continues, continues_again, by_one_step, by_tries}
-use Rattle.detachment.proofs.LegalWords.{AreLegal, configuration_is_legal, endpoint_is_legal, applied_from}
+use Rattle.detachment.proofs.LegalWords.{AreLegal, are_legal, configuration_is_legal, endpoint_is_legal, applied_from}
 use Rattle.detachment.proofs.OneBatch.{from_one, words_of_completed}
 
 -- ---- what is reserved stays so
@@ -61,14 +62,23 @@ module _ (laws : Laws) (t : SenderValue) (is : IsHistory t.ring.made_with (Sende
     own_applied : (number : ℕ) → AreApplied t.history old.number number → AreApplied t.history t.number number
     own_applied number applied = subst (λ (n : ℕ). AreApplied t.history n number) (sym asked.number_is) applied
 
-    pub told_configured : (c : ConfigurationValue) → WentOn c.sender old → IsConfiguring c → AreApplied t.history old.number c.configuration.number → IsConfigured (record c { sender = t })
-    told_configured c on keeps applied =
-        let since = on_again on asked in record {
-          own = keeps.own ∙ sym since.number_is;
-          order = told _ _ (configuration_is_legal c.sid) keeps.order.earlier (reserved_on _ _ _ c.sender t since keeps.order.reserved) (own_applied c.configuration.number applied);
-        }
+    module _ (c : ConfigurationValue) (on : WentOn c.sender old) (keeps : IsConfiguring c) (applied : AreApplied t.history old.number c.configuration.number) where
+      its_own : IsOwn c.configuration t
+      its_own = keeps.own ∙ sym (on_again on asked).number_is
 
-    pub told_detached : (e : EndpointValue) → WentOn e.sender old → IsLeaving e → AreApplied t.history old.number e.endpoint.number → IsDetached (record e { sender = t })
+      its_order : IsConfiguredIn c.stream t.number c.configuration.number t.history
+      its_order =
+          told _ _ (configuration_is_legal c.stream) keeps.order.earlier (reserved_on _ _ _ c.sender t (on_again on asked) keeps.order.reserved)
+          (own_applied c.configuration.number applied)
+
+      pub told_configured : has_ats c.stream ≡ true → IsConfigured (configuration_value c.stream c.configuration t)
+      told_configured has = record { own = its_own; cached = has; order = its_order }
+
+      pub told_uncached : has_ats c.stream ≡ false → IsDetached (detached_value c.stream c.configuration None t)
+      told_uncached lacks = record { own = its_own; order = record { uncached = lacks; configured = its_order } }
+
+    pub told_detached : (e : EndpointValue) → WentOn e.sender old → IsLeaving e → AreApplied t.history old.number e.endpoint.number
+        → IsDetached (detached_value e.stream e.configuration (Some e.endpoint) t)
     told_detached e on keeps applied =
         let since = on_again on asked in
         let reserved = reserved_on _ _ _ e.sender t since keeps.order.reserved in
@@ -76,13 +86,21 @@ module _ (laws : Laws) (t : SenderValue) (is : IsHistory t.ring.made_with (Sende
           own = keeps.own ∙ sym since.number_is;
           order = record {
             behind = record {
+              cached = keeps.order.cached;
               between = keeps.order.between;
               earlier = keeps.order.earlier;
-              configured = subst (λ (n : ℕ). IsConfiguredIn e.sid n e.configuration.number keeps.order.earlier) (sym since.number_is) keeps.order.configured;
+              configured = subst (λ (n : ℕ). IsConfiguredIn e.stream n e.configuration.number keeps.order.earlier) (sym since.number_is) keeps.order.configured;
               reserved = reserved;
             };
-            applied = told _ _ (endpoint_is_legal e.sid) _ reserved (own_applied e.endpoint.number applied);
+            applied = told _ _ (endpoint_is_legal e.stream) _ reserved (own_applied e.endpoint.number applied);
           };
+        }
+
+    pub told_changed : (c : ChangeValue) → WentOn c.sender old → IsChanging c → AreApplied t.history old.number c.sync.number → IsChanged (record c { sender = t })
+    told_changed c on keeps applied =
+        let since = on_again on asked in record {
+          own = keeps.own ∙ sym since.number_is;
+          applied = told _ _ (are_legal _ _ keeps.legal) keeps.earlier (reserved_on _ _ _ c.sender t since keeps.reserved) (own_applied c.sync.number applied);
         }
 
 -- ---- what is sent behind that
@@ -113,15 +131,20 @@ module _ (words : List Raw) (tries : ℕ) (s t : SenderValue) (receipt : Receipt
         ∙ (λ i. let l : Run = (Sender (sym its_sender i), Won words (its_number i)) ∷ goes_on.run_is i in l));
   }
 
-  pub sent_behind : (told : SenderValue) (sid configuration : ℕ) → words ≡ endpoint_words sid → WentOn told s → WentOn s t
-      → IsConfiguredIn sid told.number configuration told.history → IsLeavingIn sid t.number configuration receipt.number t.history
-  sent_behind told sid configuration is on sending configured =
+  pub sent_reserved : (wanted : List Raw) → words ≡ wanted → (earlier : Run) × HasReserved t.number wanted receipt.number earlier t.history
+  sent_reserved wanted is =
+      (goes_on.newer ++ s.history, subst (λ (ws : List Raw). HasReserved t.number ws receipt.number (goes_on.newer ++ s.history) t.history) is reserved_behind)
+
+  pub sent_behind : (told : SenderValue) (stream : Stream) (configuration : ℕ) → words ≡ endpoint_words stream → has_ats stream ≡ true → WentOn told s → WentOn s t
+      → IsConfiguredIn stream told.number configuration told.history → IsLeavingIn stream t.number configuration receipt.number t.history
+  sent_behind told stream configuration is cached on sending configured =
       let before : goes_on.newer ++ s.history ≡ (goes_on.newer ++ on.grew.newer) ++ told.history =
       ap (λ (r : Run). goes_on.newer ++ r) on.grew.run_is ∙ sym (append_assoc goes_on.newer on.grew.newer told.history) in
       record {
+        cached = cached;
         between = goes_on.newer ++ on.grew.newer;
         earlier = told.history;
-        configured = subst (λ (n : ℕ). IsConfiguredIn sid n configuration told.history) (sym (sending.number_is ∙ on.number_is)) configured;
+        configured = subst (λ (n : ℕ). IsConfiguredIn stream n configuration told.history) (sym (sending.number_is ∙ on.number_is)) configured;
         reserved =
             subst (λ (ws : List Raw). HasReserved t.number ws receipt.number ((goes_on.newer ++ on.grew.newer) ++ told.history) t.history) is
             (subst (λ (r : Run). HasReserved t.number words receipt.number r t.history) before reserved_behind);

@@ -1,4 +1,4 @@
-//! A stream whose configuration's commands are complete.
+//! A stream whose configuration's commands are complete, and whose endpoint has ATS.
 ghost use Rattle.std.specs.Prelude.{◌≡◌, ◌≤◌, IfOk, IfErr};
 ghost use Rattle.ring.specs.sender.GoingOn.{WentOn};
 ghost use Rattle.detachment.specs.Values.{IsConfigured, IsLeaving, endpoint_value};
@@ -12,10 +12,11 @@ use ring::{Receipt, Ring, Sender};
 use std::marker::Model;
 use std::snapshot::Snapshot;
 
-/// A stream whose configuration's commands are complete: its sender was told so (own).
+/// A stream whose configuration's commands are complete: its sender was told so. Its endpoint has ATS, so the
+/// command for it comes next (own).
 #[derive(Drop)]
 pub struct Configured {
-    pub(crate) sid: Sid,
+    pub(crate) stream: Detachment,
     pub(crate) receipt: Receipt,
     /// The sender once it was told, for clauses: it has no bytes.
     pub(crate) told: Snapshot<Sender>,
@@ -26,24 +27,24 @@ impl Model for Configured {
 
     ghost Value = { ConfigurationValue };
 
-    ghost view = { λ c. configuration_value c.sid c.receipt c.told.value };
+    ghost view = { λ c. configuration_value c.stream c.receipt c.told.value };
 
-    ghost invariant = { λ c. IsConfigured (configuration_value c.sid c.receipt c.told.value) };
+    ghost invariant = { λ c. IsConfigured (configuration_value c.stream c.receipt c.told.value) };
 }
 
 impl Configured {
     /// Returns the stream.
     pub fn sid(&self) -> Sid
-        ensures { result ≡ self.now.sid }
+        ensures { result ≡ self.now.stream.sid }
     {
-        self.sid
+        self.stream.sid()
     }
 
     /// A witness that the commands are applied in the run that the sender knew. It does nothing.
     pub fn commands_are_applied(&self)
         ensures { IsConfigured self.now }
     {
-        let _ = &self.sid;
+        let _ = &self.stream;
     }
 
     /// Sends the command for the endpoint with its CMD_SYNC, as `Sender::send` does: with at most `tries` tries, 1
@@ -68,7 +69,7 @@ impl Configured {
         ensures given_back { IfErr result (λ e. WentOn sender e.refused.sender) }
         ensures may_send { IfErr result (λ e. WentOn e.step.sender e.refused.sender) }
     {
-        let batch = Detachment::new(self.sid).endpoint();
+        let batch = self.stream.endpoint().unwrap();
         match sender.send(ring, &batch, tries) {
             Ok((sender, endpoint)) => {
                 let leaving = self.leaving(endpoint, &sender);
@@ -84,16 +85,16 @@ impl Configured {
 
     /// Its command for the endpoint is sent.
     fn leaving(self, endpoint: Receipt, sender: &Sender) -> Leaving
-        requires { IsLeaving (endpoint_value self.sid self.configuration endpoint sender.now) }
-        ensures { result ≡ endpoint_value self.sid self.configuration endpoint sender.now }
+        requires { IsLeaving (endpoint_value self.stream self.configuration endpoint sender.now) }
+        ensures { result ≡ endpoint_value self.stream self.configuration endpoint sender.now }
     {
         let Configured {
-            sid,
+            stream,
             receipt,
             told: _,
         } = self;
         Leaving {
-            sid,
+            stream,
             configuration: receipt,
             endpoint,
             sent: Snapshot::of(sender),

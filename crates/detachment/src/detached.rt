@@ -2,6 +2,7 @@
 ghost use Rattle.std.specs.Prelude.{◌≡◌};
 ghost use Rattle.detachment.specs.Values.{IsDetached};
 
+use crate::detachment::Detachment;
 use cmdcodec::Sid;
 use ring::{Receipt, Sender};
 use std::marker::Model;
@@ -10,36 +11,37 @@ use std::snapshot::Snapshot;
 /// A stream that is taken away from its device: its sender was told that all its commands are complete (own).
 #[derive(Drop)]
 pub struct Detached {
-    pub(crate) sid: Sid,
+    pub(crate) stream: Detachment,
     pub(crate) configuration: Receipt,
-    pub(crate) endpoint: Receipt,
+    /// Where the endpoint has ATS.
+    pub(crate) endpoint: Option<Receipt>,
     /// The sender once it was told, for clauses: it has no bytes.
     pub(crate) told: Snapshot<Sender>,
 }
 
 impl Model for Detached {
-    ghost use Rattle.detachment.specs.Values.{EndpointValue, IsDetached, endpoint_value};
+    ghost use Rattle.detachment.specs.Values.{DetachedValue, IsDetached, detached_value};
 
-    ghost Value = { EndpointValue };
+    ghost Value = { DetachedValue };
 
-    ghost view = { λ e. endpoint_value e.sid e.configuration e.endpoint e.told.value };
+    ghost view = { λ d. detached_value d.stream d.configuration d.endpoint d.told.value };
 
-    ghost invariant = { λ e. IsDetached (endpoint_value e.sid e.configuration e.endpoint e.told.value) };
+    ghost invariant = { λ d. IsDetached (detached_value d.stream d.configuration d.endpoint d.told.value) };
 }
 
 impl Detached {
     /// Returns the stream.
     pub fn sid(&self) -> Sid
-        ensures { result ≡ self.now.sid }
+        ensures { result ≡ self.now.stream.sid }
     {
-        self.sid
+        self.stream.sid()
     }
 
-    /// A witness that all commands are applied in the run that the sender knew, and that the endpoint's was
-    /// reserved behind a run in which those for the configuration were. It does nothing.
+    /// A witness that the commands for the configuration are applied in the run that the sender knew, and, if the
+    /// endpoint has ATS, that the endpoint's is too, and was reserved behind a run in which those were. It does nothing.
     pub fn order_was_kept(&self)
         ensures { IsDetached self.now }
     {
-        let _ = &self.sid;
+        let _ = &self.stream;
     }
 }

@@ -1,16 +1,18 @@
 //! A stream that is to be taken away from its device.
-ghost use Rattle.std.specs.Prelude.{◌≡◌, ◌≤◌, All, None, IfOk, IfErr};
-ghost use Rattle.cmdcodec.specs.Legality.{first_ill};
+ghost use Rattle.std.specs.Prelude.{◌≡◌, ◌≤◌, true, All, IfOk, IfErr, IfSome};
+ghost use Rattle.std.specs.Option.{SomeIff};
+ghost use Rattle.smmu_features.specs.Commands.{IsLegalFor};
 ghost use Rattle.ring.specs.sender.GoingOn.{WentOn};
-ghost use Rattle.detachment.specs.Commands.{configuration_words, endpoint_words};
+ghost use Rattle.detachment.specs.Commands.{has_ats, configuration_words, endpoint_words};
 ghost use Rattle.detachment.specs.Values.{IsConfiguring, configuration_value};
 ghost use Rattle.detachment.specs.Sending.{HasSentConfiguration, ConfigurationIsUnsent};
 
 use crate::configuring::Configuring;
 use crate::unsent::Unsent;
 use batch::Batch;
-use cmdcodec::{Command, Page, Sid, Size, Ssid, encode, legal_words_spell_one_command};
+use cmdcodec::{Command, Page, Sid, Size, Ssid, encode};
 use ring::{Receipt, Ring, Sender};
+use smmu_features::Smmu;
 use std::marker::Model;
 use std::snapshot::Snapshot;
 
@@ -18,57 +20,75 @@ use std::snapshot::Snapshot;
 const SIZE_OF_ALL: u64 = 52;
 
 /// A stream that is to be taken away from its device (own).
-#[derive(Clone, Copy, Debug, PartialEq, Eq)]
+#[derive(Clone, Copy, Debug)]
 pub struct Detachment {
     sid: Sid,
+    /// What its SMMU has.
+    smmu: Smmu,
+    /// Whether its endpoint has ATS.
+    ats: bool,
 }
 
 impl Model for Detachment {
-    ghost use Rattle.std.specs.Prelude.{ℕ};
+    ghost use Rattle.detachment.specs.Commands.{Stream};
 
-    ghost Value = { ℕ };
+    ghost Value = { Stream };
 
-    ghost view = { λ d. d.sid };
+    ghost view = { λ d. record { sid = d.sid; smmu = d.smmu; ats = d.ats } };
 
-    ghost inverse = { λ sid. record { sid = sid } };
+    ghost inverse = { λ stream. record { sid = stream.sid; smmu = stream.smmu; ats = stream.ats } };
 }
 
 impl Detachment {
-    /// Of this stream. Nothing is sent.
-    pub fn new(sid: Sid) -> Detachment
-        ensures { result ≡ sid }
+    /// Of this stream of an SMMU; `ats` says whether its endpoint caches translations (PCIe ATS). Nothing is sent.
+    pub fn new(sid: Sid, smmu: &Smmu, ats: bool) -> Detachment
+        ensures { result ≡ record { sid = sid; smmu = smmu.now; ats = ats } }
     {
-        Detachment { sid }
+        Detachment {
+            sid,
+            smmu: *smmu,
+            ats,
+        }
     }
 
     /// Returns the stream.
     pub fn sid(&self) -> Sid
-        ensures { result ≡ self.now }
+        ensures { result ≡ self.now.sid }
     {
         self.sid
     }
 
+    /// Whether its endpoint caches translations: the SMMU has ATS (SMMU_IDR0.ATS), and so has the endpoint.
+    pub fn has_ats(&self) -> bool
+        ensures { result ≡ has_ats self.now }
+    {
+        self.smmu.ats && self.ats
+    }
+
     /// Returns the commands for its configuration, which are to be complete before its endpoint's are sent:
-    /// CMD_CFGI_STE with Leaf 1, and CMD_CFGI_CD_ALL.
+    /// CMD_CFGI_STE with Leaf 1, and CMD_CFGI_CD_ALL if the SMMU has stage 1.
     pub fn configuration(&self) -> Batch
         ensures exact { result ≡ configuration_words self.now }
-        ensures legal { All (λ raw. first_ill raw ≡ None) result }
+        ensures legal { All (IsLegalFor self.now.smmu) result }
     {
-        legal_words_spell_one_command();
         let sid = self.sid;
         let entry = encode(&Command::CfgiSte { sid, leaf: true });
-        let descriptors = encode(&Command::CfgiCdAll { sid });
         let mut batch = Batch::new(entry).unwrap();
-        batch.push_raw(descriptors).unwrap();
+        if self.smmu.stage_1 {
+            let descriptors = encode(&Command::CfgiCdAll { sid });
+            batch.push_raw(descriptors).unwrap();
+        }
         batch
     }
 
-    /// Returns the command for its endpoint: CMD_ATC_INV with SSV 0, for all pages.
-    pub fn endpoint(&self) -> Batch
-        ensures exact { result ≡ endpoint_words self.now }
-        ensures legal { All (λ raw. first_ill raw ≡ None) result }
+    /// Returns the command for its endpoint, if that caches translations: CMD_ATC_INV with SSV 0, for all pages.
+    pub fn endpoint(&self) -> Option<Batch>
+        ensures exact { SomeIff result (has_ats self.now ≡ true) (endpoint_words self.now) }
+        ensures legal { IfSome result (λ batch. All (IsLegalFor self.now.smmu) batch) }
     {
-        legal_words_spell_one_command();
+        if !self.has_ats() {
+            return None;
+        }
         let pages = encode(&Command::AtcInv {
             sid: self.sid,
             ssv: false,
@@ -77,7 +97,7 @@ impl Detachment {
             size: Size::new(SIZE_OF_ALL).unwrap(),
             page: Page::new(0).unwrap(),
         });
-        Batch::new(pages).unwrap()
+        Some(Batch::new(pages).unwrap())
     }
 
     /// Sends the commands for the configuration with their CMD_SYNC, as `Sender::send` does: with at most `tries`
@@ -119,7 +139,7 @@ impl Detachment {
         ensures { result ≡ configuration_value self receipt sender.now }
     {
         Configuring {
-            sid: self.sid,
+            stream: self,
             receipt,
             sent: Snapshot::of(sender),
         }

@@ -1,10 +1,11 @@
 //! A stream whose endpoint's command is sent.
-ghost use Rattle.std.specs.Prelude.{◌≡◌, IfOk, IfErr, is_ok};
+ghost use Rattle.std.specs.Prelude.{◌≡◌, Some, IfOk, IfErr, is_ok};
 ghost use Rattle.ring.specs.sender.Senders.{HasAsked};
 ghost use Rattle.ring.specs.sender.GoingOn.{WentOn};
-ghost use Rattle.detachment.specs.Values.{IsLeaving, IsDetached};
+ghost use Rattle.detachment.specs.Values.{IsLeaving, IsDetached, detached_value};
 
 use crate::detached::Detached;
+use crate::detachment::Detachment;
 use cmdcodec::Sid;
 use ring::{Receipt, Ring, Sender};
 use ringcore::laws::consumer_trail;
@@ -16,7 +17,7 @@ use std::snapshot::Snapshot;
 /// known to be complete (own).
 #[derive(Drop)]
 pub struct Leaving {
-    pub(crate) sid: Sid,
+    pub(crate) stream: Detachment,
     pub(crate) configuration: Receipt,
     pub(crate) endpoint: Receipt,
     /// The sender once it had sent it, for clauses: it has no bytes.
@@ -28,17 +29,17 @@ impl Model for Leaving {
 
     ghost Value = { EndpointValue };
 
-    ghost view = { λ e. endpoint_value e.sid e.configuration e.endpoint e.sent.value };
+    ghost view = { λ e. endpoint_value e.stream e.configuration e.endpoint e.sent.value };
 
-    ghost invariant = { λ e. IsLeaving (endpoint_value e.sid e.configuration e.endpoint e.sent.value) };
+    ghost invariant = { λ e. IsLeaving (endpoint_value e.stream e.configuration e.endpoint e.sent.value) };
 }
 
 impl Leaving {
     /// Returns the stream.
     pub fn sid(&self) -> Sid
-        ensures { result ≡ self.now.sid }
+        ensures { result ≡ self.now.stream.sid }
     {
-        self.sid
+        self.stream.sid()
     }
 
     /// Returns the receipt of the CMD_SYNC behind the command.
@@ -53,7 +54,7 @@ impl Leaving {
     pub fn command_is_behind(&self)
         ensures { IsLeaving self.now }
     {
-        let _ = &self.sid;
+        let _ = &self.stream;
     }
 
     /// Asks whether the CMD_SYNC is complete, by the completion cell of the sender that sent it (own).
@@ -63,7 +64,8 @@ impl Leaving {
         requires ring { sender.old.ring ≡ ring.now }
         requires same_sender { WentOn self.sender sender.old }
         ensures asked { HasAsked self.endpoint.number sender.old sender.new (is_ok result) }
-        ensures told { IfOk result (λ e. e ≡ record self { sender = sender.new }) }
+        ensures told { IfOk result (λ d. d
+            ≡ detached_value self.stream self.configuration (Some self.endpoint) sender.new) }
         ensures detached { IfOk result IsDetached }
         ensures not_told { IfErr result (λ e. e ≡ self) }
         ensures went_on { WentOn sender.old sender.new }
@@ -77,15 +79,15 @@ impl Leaving {
         }
         sender.trail_stands_in_a_run();
         let Leaving {
-            sid,
+            stream,
             configuration,
             endpoint,
             sent: _,
         } = self;
         let detached = Detached {
-            sid,
+            stream,
             configuration,
-            endpoint,
+            endpoint: Some(endpoint),
             told: Snapshot::of(sender),
         };
         detached.order_was_kept();

@@ -1,2 +1,4 @@
+pub mod Streams
 pub mod WorkedCommands
 pub mod WorkedSteps
+pub mod WorkedChanges

@@ -8,9 +8,14 @@ use Rattle.ring.specs.Runs.{Raw, Who, Consumer, Sender, Event, Won, Advance, Run
 use Rattle.ring.specs.declared.sender.cause.Refused.{Refused}
 use Rattle.ring.specs.sender.Senders.{SenderValue, ReceiptValue}
 use Rattle.ring.specs.sender.Sending.{IsSent, IsGivenUp}
-use Rattle.detachment.specs.Commands.{configuration_words, endpoint_words}
-use Rattle.detachment.specs.Order.{HasReserved, AreAppliedFrom, HasApplied, IsConfiguringIn, IsConfiguredIn, IsLeavingIn, IsDetachedIn}
-use Rattle.detachment.specs.Values.{ConfigurationValue, EndpointValue, configuration_value, endpoint_value, IsOwn, IsConfiguring, IsConfigured, IsLeaving, IsDetached}
+use Rattle.detachment.specs.Commands.{Stream, has_ats, configuration_words, endpoint_words}
+use Rattle.detachment.specs.Order.{HasReserved, AreAppliedFrom, HasApplied, IsConfiguringIn, IsConfiguredIn, IsLeavingIn, HasLeftIn, IsDetachedIn}
+use Rattle.detachment.specs.Values.{ConfigurationValue, EndpointValue, DetachedValue, configuration_value, endpoint_value, detached_value, IsOwn, IsConfiguring, IsConfigured, IsLeaving, IsDetached}
+use Rattle.detachment.specs.Looking.{IsNext, HasComeAsFar, MaySend}
+use Rattle.detachment.specs.declared.next.Next.{Next}
+use Rattle.detachment.specs.declared.next.Next.TheVariants.{Endpoint, Nothing}
+use Rattle.detachment_tests.proofs.Streams.{stream, without_ats}
+use Rattle.ring.specs.sender.GoingOn.{WentOn}
 use Rattle.detachment.specs.Sending.{HasSentConfiguration, HasSentEndpoint, ConfigurationIsUnsent, EndpointIsUnsent}
 
 -- ---- lists with one element, or none
@@ -71,38 +76,38 @@ outcome_in (Some taken) = taken.outcome
 
 -- sender 0's batch for the configuration of stream 5, or of 6, and the one for the endpoint of stream 5
 abbrev first : Who × Event
-first = (Sender 0, Won (configuration_words 5) (Some 1))
+first = (Sender 0, Won (configuration_words (stream 5)) (Some 1))
 
 abbrev of_six : Who × Event
-of_six = (Sender 0, Won (configuration_words 6) (Some 1))
+of_six = (Sender 0, Won (configuration_words (stream 6)) (Some 1))
 
 abbrev second : Who × Event
-second = (Sender 0, Won (endpoint_words 5) (Some 2))
+second = (Sender 0, Won (endpoint_words (stream 5)) (Some 2))
 
 -- all of the first batch is taken
 abbrev taken_first : Who × Event
-taken_first = (Consumer, Advance (configuration_words 5 ++ sync_raw 0 1 ∷ []))
+taken_first = (Consumer, Advance (configuration_words (stream 5) ++ sync_raw 0 1 ∷ []))
 
 -- ---- what is reserved
 
-pub not_by_another_sender : ¬ HasReserved 1 (configuration_words 5) 1 [] (first ∷ [])
-not_by_another_sender is = let same = ap sender_of (only_one first (Sender 1, Won (configuration_words 5) (Some 1)) is.later [] is.run_is).0 in omega (arith, same)
+pub not_by_another_sender : ¬ HasReserved 1 (configuration_words (stream 5)) 1 [] (first ∷ [])
+not_by_another_sender is = let same = ap sender_of (only_one first (Sender 1, Won (configuration_words (stream 5)) (Some 1)) is.later [] is.run_is).0 in omega (arith, same)
 
-pub not_with_another_number : ¬ HasReserved 0 (configuration_words 5) 2 [] (first ∷ [])
-not_with_another_number is = let same = ap number_of (only_one first (Sender 0, Won (configuration_words 5) (Some 2)) is.later [] is.run_is).0 in omega (arith, same)
+pub not_with_another_number : ¬ HasReserved 0 (configuration_words (stream 5)) 2 [] (first ∷ [])
+not_with_another_number is = let same = ap number_of (only_one first (Sender 0, Won (configuration_words (stream 5)) (Some 2)) is.later [] is.run_is).0 in omega (arith, same)
 
-pub not_with_other_words : ¬ HasReserved 0 (configuration_words 5) 1 [] (of_six ∷ [])
+pub not_with_other_words : ¬ HasReserved 0 (configuration_words (stream 5)) 1 [] (of_six ∷ [])
 unfolding encoding
 not_with_other_words is = let same = ap low_of (only_one of_six first is.later [] is.run_is).0 in omega (arith, same)
 
-pub not_behind_another_run : ¬ HasReserved 0 (configuration_words 5) 1 (first ∷ []) (first ∷ [])
+pub not_behind_another_run : ¬ HasReserved 0 (configuration_words (stream 5)) 1 (first ∷ []) (first ∷ [])
 not_behind_another_run is = two_of_one is.later is.run_is
   where
     two_of_one : (later : Run) → ¬ (first ∷ [] ≡ later ++ first ∷ (first ∷ []))
     two_of_one [] is = let none : [] ≡ first ∷ [] = ap rest_of is in absurd (cc)
     two_of_one (x ∷ later) is = nothing_is_more later first (first ∷ []) (ap rest_of is)
 
-pub not_of_another_stream : ¬ IsConfiguringIn 5 0 1 (of_six ∷ [])
+pub not_of_another_stream : ¬ IsConfiguringIn (stream 5) 0 1 (of_six ∷ [])
 unfolding encoding
 not_of_another_stream is = let same = ap low_of (only_one of_six first is.reserved.later is.earlier is.reserved.run_is).0 in omega (arith, same)
 
@@ -116,16 +121,16 @@ not_elsewhere raw are = let no : false ≡ true = ap is_some (are 0 raw refl) in
 
 -- the batch for stream 6, and all of it taken
 abbrev six_taken : Run
-six_taken = (Consumer, Advance (configuration_words 6 ++ sync_raw 0 1 ∷ [])) ∷ of_six ∷ []
+six_taken = (Consumer, Advance (configuration_words (stream 6) ++ sync_raw 0 1 ∷ [])) ∷ of_six ∷ []
 
 abbrev batch_of : ℕ → List Raw → Batch
 batch_of number words = record { sender = 0; number = Some number; body = words }
 
-pub not_applied_for_another : ¬ IsConfiguredIn 5 0 1 six_taken
+pub not_applied_for_another : ¬ IsConfiguredIn (stream 5) 0 1 six_taken
 unfolding encoding
 not_applied_for_another is =
     let completed = is.sync.completed in
-    let one = only_one (batch_of 1 (configuration_words 6)) (batch_of 1 completed.body) completed.ahead completed.behind completed.reserved in
+    let one = only_one (batch_of 1 (configuration_words (stream 6))) (batch_of 1 completed.body) completed.ahead completed.behind completed.reserved in
     let words = ap (λ (b : Batch). b.body) one.0 in
     let same = ap first_low (words ∙ is.words_are) in omega (arith, same)
 
@@ -150,7 +155,7 @@ replaced_is_not_applied is =
 
 -- both batches are reserved before any of their commands is taken
 abbrev too_early : Run
-too_early = (Consumer, Advance ((configuration_words 5 ++ sync_raw 0 1 ∷ []) ++ (endpoint_words 5 ++ sync_raw 0 2 ∷ []))) ∷ second ∷ first ∷ []
+too_early = (Consumer, Advance ((configuration_words (stream 5) ++ sync_raw 0 1 ∷ []) ++ (endpoint_words (stream 5) ++ sync_raw 0 2 ∷ []))) ∷ second ∷ first ∷ []
 
 nothing_taken : (between earlier : Run) → first ∷ [] ≡ between ++ earlier → advanced earlier ≡ []
 nothing_taken [] earlier is = ap advanced (sym is)
@@ -164,17 +169,17 @@ before_the_second (x ∷ y ∷ []) between earlier is = let same = ap (λ (run :
 before_the_second (x ∷ y ∷ z ∷ later) between earlier is =
     absurd (nothing_is_more later second (between ++ earlier) (ap (λ (run : Run). rest_of (rest_of (rest_of run))) is))
 
-not_configured_by_nothing : (run : Run) → advanced run ≡ [] → ¬ IsConfiguredIn 5 0 1 run
-not_configured_by_nothing run none is =
+not_configured_by_nothing : (of : Stream) (run : Run) → advanced run ≡ [] → ¬ IsConfiguredIn of 0 1 run
+not_configured_by_nothing of run none is =
     let completed = is.sync.completed in
     let no : false ≡ true =
     ap is_some (subst (λ (raws : List Raw). slice_get raws (length (joined completed.ahead ++ completed.body)) ≡ Some (sync_raw 0 1)) none completed.sync) in absurd (cc)
 
-pub sent_too_early_is_not_behind : ¬ IsLeavingIn 5 0 1 2 too_early
+pub sent_too_early_is_not_behind : ¬ IsLeavingIn (stream 5) 0 1 2 too_early
 sent_too_early_is_not_behind is =
-    not_configured_by_nothing is.earlier (before_the_second is.reserved.later is.between is.earlier is.reserved.run_is) is.configured
+    not_configured_by_nothing (stream 5) is.earlier (before_the_second is.reserved.later is.between is.earlier is.reserved.run_is) is.configured
 
-pub sent_too_early_is_not_detached : ¬ IsDetachedIn 5 0 1 2 too_early
+pub sent_too_early_is_not_detached : ¬ IsDetachedIn (stream 5) 0 1 (Some 2) too_early
 sent_too_early_is_not_detached is = sent_too_early_is_not_behind is.behind
 
 -- the first is taken, and the second is reserved behind that
@@ -188,17 +193,28 @@ has_fourth raws = false
 too_few_taken : (ahead behind : List Batch) (body : List Raw) → batches in_order ≡ ahead ++ batch_of 2 body ∷ behind → ¬ Begins (joined ahead ++ body) (advanced in_order)
 too_few_taken [] behind body is begins = let same = ap first_number is in omega (arith, same)
 too_few_taken (b ∷ []) behind body is begins =
-    let one : batch_of 1 (configuration_words 5) ≡ b = cc in
-    let two : batch_of 2 (endpoint_words 5) ≡ batch_of 2 body = ap (λ (bs : List Batch). first_or bs (batch_of 2 body)) (ap rest_of is) in
+    let one : batch_of 1 (configuration_words (stream 5)) ≡ b = cc in
+    let two : batch_of 2 (endpoint_words (stream 5)) ≡ batch_of 2 body = ap (λ (bs : List Batch). first_or bs (batch_of 2 body)) (ap rest_of is) in
     let all =
-    subst (λ (c : Batch). Begins (joined (c ∷ []) ++ endpoint_words 5) (advanced in_order)) (sym one)
+    subst (λ (c : Batch). Begins (joined (c ∷ []) ++ endpoint_words (stream 5)) (advanced in_order)) (sym one)
     (subst (λ (ws : List Raw). Begins (joined (b ∷ []) ++ ws) (advanced in_order)) (sym (ap (λ (c : Batch). c.body) two)) begins) in
     let no : false ≡ true = ap has_fourth all.1 in absurd (cc)
 too_few_taken (b ∷ c ∷ ahead) behind body is begins = nothing_is_more ahead (batch_of 2 body) behind (ap (λ (bs : List Batch). rest_of (rest_of bs)) is)
 
-pub reserved_is_not_detached : ¬ IsDetachedIn 5 0 1 2 in_order
+pub reserved_is_not_detached : ¬ IsDetachedIn (stream 5) 0 1 (Some 2) in_order
 reserved_is_not_detached is =
     let completed = is.applied.sync.completed in too_few_taken completed.ahead completed.behind completed.body completed.reserved completed.all_ahead
+
+-- ---- with ATS, and without
+
+pub not_detached_without_its_endpoint : (run : Run) → ¬ IsDetachedIn (stream 5) 0 1 None run
+not_detached_without_its_endpoint run is = let no : true ≡ false = is.uncached in absurd (cc)
+
+pub not_leaving_without_ats : (run : Run) → ¬ IsLeavingIn (without_ats 5) 0 1 2 run
+not_leaving_without_ats run is = let no : false ≡ true = is.cached in absurd (cc)
+
+pub reserved_without_ats_is_not_detached : ¬ IsDetachedIn (without_ats 5) 0 1 None (first ∷ [])
+reserved_without_ats_is_not_detached is = not_configured_by_nothing (without_ats 5) (first ∷ []) refl is.configured
 
 -- ---- what each step keeps
 
@@ -210,16 +226,25 @@ abbrev receipt : ℕ → ReceiptValue
 receipt number = record { sender = 0; number = number }
 
 abbrev configuration_known : RingValue → Run → ConfigurationValue
-configuration_known ring run = record { sid = 5; configuration = receipt 1; sender = knowing ring run }
+configuration_known ring run = record { stream = stream 5; configuration = receipt 1; sender = knowing ring run }
 
 abbrev endpoint_known : RingValue → Run → EndpointValue
-endpoint_known ring run = record { sid = 5; configuration = receipt 1; endpoint = receipt 2; sender = knowing ring run }
+endpoint_known ring run = record { stream = stream 5; configuration = receipt 1; endpoint = receipt 2; sender = knowing ring run }
 
-pub parts_for_the_configuration : (s : SenderValue) → configuration_value 5 (receipt 1) s ≡ record { sid = 5; configuration = receipt 1; sender = s }
+abbrev pub detached_known : RingValue → Run → DetachedValue
+detached_known ring run = record { stream = stream 5; configuration = receipt 1; endpoint = Some (receipt 2); sender = knowing ring run }
+
+abbrev pub configured_without_ats : RingValue → Run → ConfigurationValue
+configured_without_ats ring run = record { stream = without_ats 5; configuration = receipt 1; sender = knowing ring run }
+
+pub parts_for_the_configuration : (s : SenderValue) → configuration_value (stream 5) (receipt 1) s ≡ record { stream = stream 5; configuration = receipt 1; sender = s }
 parts_for_the_configuration s = refl
 
-pub parts_for_the_endpoint : (s : SenderValue) → endpoint_value 5 (receipt 1) (receipt 2) s ≡ record { sid = 5; configuration = receipt 1; endpoint = receipt 2; sender = s }
+pub parts_for_the_endpoint : (s : SenderValue) → endpoint_value (stream 5) (receipt 1) (receipt 2) s ≡ record { stream = stream 5; configuration = receipt 1; endpoint = receipt 2; sender = s }
 parts_for_the_endpoint s = refl
+
+pub parts_of_a_detached_stream : (s : SenderValue) → detached_value (stream 5) (receipt 1) None s ≡ record { stream = stream 5; configuration = receipt 1; endpoint = None; sender = s }
+parts_of_a_detached_stream s = refl
 
 pub receipt_of_another_sender : (s : SenderValue) → ¬ IsOwn (record { sender = suc s.number; number = 1 }) s
 receipt_of_another_sender s own = omega (arith, own)
@@ -233,7 +258,7 @@ not_configured ring is = not_applied_for_another is.order
 pub not_leaving : (ring : RingValue) → ¬ IsLeaving (endpoint_known ring too_early)
 not_leaving ring is = sent_too_early_is_not_behind is.order
 
-pub not_detached : (ring : RingValue) → ¬ IsDetached (endpoint_known ring in_order)
+pub not_detached : (ring : RingValue) → ¬ IsDetached (detached_known ring in_order)
 not_detached ring is = reserved_is_not_detached is.order
 
 pub own_configuring : (c : ConfigurationValue) → IsConfiguring c → IsOwn c.configuration c.sender
@@ -242,20 +267,46 @@ own_configuring c is = is.own
 pub own_leaving : (e : EndpointValue) → IsLeaving e → IsOwn e.endpoint e.sender
 own_leaving e is = is.own
 
+pub not_configured_without_ats : (ring : RingValue) (run : Run) → ¬ IsConfigured (configured_without_ats ring run)
+not_configured_without_ats ring run is = let no : false ≡ true = is.cached in absurd (cc)
+
+-- ---- what is next
+
+pub nothing_is_not_next_with_ats : (ring : RingValue) (run : Run) (s : SenderValue) (d : DetachedValue) → ¬ IsNext (configuration_known ring run) s (Nothing d)
+nothing_is_not_next_with_ats ring run s d is = let no : true ≡ false = is.0 in absurd (cc)
+
+pub endpoint_is_not_next_without_ats : (ring : RingValue) (run : Run) (s : SenderValue) (c : ConfigurationValue) → ¬ IsNext (configured_without_ats ring run) s (Endpoint c)
+endpoint_is_not_next_without_ats ring run s c is = let no : false ≡ true = is.0 in absurd (cc)
+
+pub next_of_the_same_stream : (c configured : ConfigurationValue) (s : SenderValue) → IsNext c s (Endpoint configured) → configured ≡ record c { sender = s }
+next_of_the_same_stream c configured s is = is.1
+
+pub nothing_next_for_the_same_stream : (c : ConfigurationValue) (s : SenderValue) (d : DetachedValue) → IsNext c s (Nothing d) → d ≡ detached_value c.stream c.configuration None s
+nothing_next_for_the_same_stream c s d is = is.1
+
+pub next_is_configured : (c : ConfigurationValue) → HasComeAsFar (Endpoint c) → IsConfigured c
+next_is_configured c is = is
+
+pub next_is_detached : (d : DetachedValue) → HasComeAsFar (Nothing d) → IsDetached d
+next_is_detached d is = is
+
+pub next_may_be_sent : (c : ConfigurationValue) (s : SenderValue) → MaySend s (Endpoint c) → WentOn c.sender s
+next_may_be_sent c s may = may
+
 -- ---- what is sent
 
-pub sent_for_its_stream : (tries : ℕ) (old new : SenderValue) (c : ConfigurationValue) → HasSentConfiguration 5 tries old new c
-    → (c.sid ≡ 5) × (c.sender ≡ new) × IsSent (configuration_words 5) tries old new c.configuration
-sent_for_its_stream tries old new c did = (did.sid_is, did.sender_is, did.sent)
+pub sent_for_its_stream : (tries : ℕ) (old new : SenderValue) (c : ConfigurationValue) → HasSentConfiguration (stream 5) tries old new c
+    → (c.stream ≡ stream 5) × (c.sender ≡ new) × IsSent (configuration_words (stream 5)) tries old new c.configuration
+sent_for_its_stream tries old new c did = (did.stream_is, did.sender_is, did.sent)
 
 pub sent_for_its_endpoint : (c : ConfigurationValue) (tries : ℕ) (old new : SenderValue) (e : EndpointValue) → HasSentEndpoint c tries old new e
-    → (e.sid ≡ c.sid) × (e.configuration ≡ c.configuration) × (e.sender ≡ new) × IsSent (endpoint_words c.sid) tries old new e.endpoint
-sent_for_its_endpoint c tries old new e did = (did.sid_is, did.configuration_is, did.sender_is, did.sent)
+    → (e.stream ≡ c.stream) × (e.configuration ≡ c.configuration) × (e.sender ≡ new) × IsSent (endpoint_words c.stream) tries old new e.endpoint
+sent_for_its_endpoint c tries old new e did = (did.stream_is, did.configuration_is, did.sender_is, did.sent)
 
-pub configuration_refused_with_its_sync : (tries : ℕ) (s : SenderValue) (refused : Refused) → ConfigurationIsUnsent 5 tries s refused
-    → IsGivenUp (configuration_words 5) true tries s refused.cause refused.sender
+pub configuration_refused_with_its_sync : (tries : ℕ) (s : SenderValue) (refused : Refused) → ConfigurationIsUnsent (stream 5) tries s refused
+    → IsGivenUp (configuration_words (stream 5)) true tries s refused.cause refused.sender
 configuration_refused_with_its_sync tries s refused is = is
 
 pub endpoint_refused_with_its_sync : (c : ConfigurationValue) (tries : ℕ) (s : SenderValue) (refused : Refused) → EndpointIsUnsent c tries s refused
-    → IsGivenUp (endpoint_words c.sid) true tries s refused.cause refused.sender
+    → IsGivenUp (endpoint_words c.stream) true tries s refused.cause refused.sender
 endpoint_refused_with_its_sync c tries s refused is = is

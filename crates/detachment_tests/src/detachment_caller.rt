@@ -1,9 +1,10 @@
 //! The caller that detachment's README shows.
 ghost use Rattle.std.specs.Prelude.{◌≡◌, []};
 
+use crate::making::smmu;
 use caches::{Caches, Tag};
 use cmdcodec::{Page, Sid};
-use detachment::Detachment;
+use detachment::{Detachment, Next};
 use engine::{Engine, Finished, RunAnswer};
 use ring::{Ring, RingFault, Sender};
 use std::alloc::AllocError;
@@ -41,7 +42,8 @@ fn a_stream_leaves(rt: HostRuntime) -> Result<(), RingFault> {
     };
     assert!(rt; engine.fill(entry, 70).is_ok());
     // The driver has cleared the stream table entry in memory. Its cached copy goes first.
-    let Ok((mut sender, configuring)) = Detachment::new(sid).send(&ring, sender, 1) else {
+    let Ok((mut sender, configuring)) = Detachment::new(sid, &smmu(), true).send(&ring, sender, 1)
+    else {
         panic!(rt; "the batch is refused");
     };
     let Err(configuring) = configuring.look(&ring, &mut sender) else {
@@ -54,7 +56,7 @@ fn a_stream_leaves(rt: HostRuntime) -> Result<(), RingFault> {
         engine.step_run(&ring, 64),
         RunAnswer::Applied { count, removed }
     );
-    let Ok(configured) = configuring.look(&ring, &mut sender) else {
+    let Ok(Next::Endpoint(configured)) = configuring.look(&ring, &mut sender) else {
         panic!(rt; "its CMD_SYNC is complete");
     };
     // From here on it can't, and what it cached goes.

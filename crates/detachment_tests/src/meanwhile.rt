@@ -1,11 +1,13 @@
 //! A sender that sends other batches between the steps, and asks again and again.
 ghost use Rattle.std.specs.Prelude.{◌≡◌, IfOk};
 ghost use Rattle.ring.specs.sender.GoingOn.{WentOn};
+ghost use Rattle.detachment.specs.Looking.{MaySend};
 
 use crate::device::{NoCaches, take};
+use crate::making::smmu;
 use batch::Batch;
 use cmdcodec::{Raw, Sid};
-use detachment::{Configured, Configuring, Detachment, a_sender_goes_on};
+use detachment::{Configuring, Detachment, Next, a_sender_goes_on};
 use ring::{Ring, RingFault, Sender};
 
 /// CMD_CFGI_STE of stream 6 with Leaf 1.
@@ -20,17 +22,17 @@ fn wait(
     configuring: Configuring,
     sender: &mut Sender,
     looks: u32,
-) -> Result<Configured, Configuring>
+) -> Result<Next, Configuring>
     requires ring { sender.old.ring ≡ ring.now }
     requires same_sender { WentOn configuring.sender sender.old }
     ensures ring { sender.new.ring ≡ ring.now }
     ensures id { sender.new.number ≡ sender.old.number }
-    ensures may_send { IfOk result (λ c. WentOn c.sender sender.new) }
+    ensures may_send { IfOk result (MaySend sender.new) }
 {
     let mut configuring = configuring;
     for _ in 0..looks {
         match configuring.look(ring, sender) {
-            Ok(configured) => return Ok(configured),
+            Ok(next) => return Ok(next),
             Err(again) => configuring = again,
         }
     }
@@ -43,7 +45,8 @@ fn another_batch_in_between(rt: HostRuntime) -> Result<(), RingFault> {
     let (ring, mut senders, consumer) = Ring::new::<NoCaches>(rt.alloc(), 3, 1, 100)?;
     let sender = senders.pop().expect(&rt, "one sender");
     let sid = Sid::new(5).expect(&rt, "32 bits");
-    let Ok((sender, configuring)) = Detachment::new(sid).send(&ring, sender, 1) else {
+    let Ok((sender, configuring)) = Detachment::new(sid, &smmu(), true).send(&ring, sender, 1)
+    else {
         panic!(rt; "it fits");
     };
     let batch = Batch::new(OTHER).expect(&rt, "no CMD_SYNC");
@@ -51,7 +54,7 @@ fn another_batch_in_between(rt: HostRuntime) -> Result<(), RingFault> {
         panic!(rt; "it fits");
     };
     let _consumer = take(&ring, consumer, 3);
-    let Ok(configured) = wait(&ring, configuring, &mut sender, 2) else {
+    let Ok(Next::Endpoint(configured)) = wait(&ring, configuring, &mut sender, 2) else {
         panic!(rt; "its CMD_SYNC is complete");
     };
     assert!(rt; !sender.is_done(&ring, &other));

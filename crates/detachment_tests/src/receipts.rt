@@ -1,7 +1,8 @@
 //! What each step tells: its stream, and the number of the CMD_SYNC that it waits for.
 use crate::device::{NoCaches, take};
+use crate::making::smmu;
 use cmdcodec::Sid;
-use detachment::{Detachment, commands_cover_the_stream};
+use detachment::{Detachment, Next, commands_cover_the_stream};
 use ring::{Ring, RingFault};
 
 #[test]
@@ -10,7 +11,8 @@ fn numbers_of_both_syncs(rt: HostRuntime) -> Result<(), RingFault> {
     let (ring, mut senders, consumer) = Ring::new::<NoCaches>(rt.alloc(), 3, 1, 100)?;
     let sender = senders.pop().expect(&rt, "one sender");
     let sid = Sid::new(5).expect(&rt, "32 bits");
-    let Ok((mut sender, configuring)) = Detachment::new(sid).send(&ring, sender, 1) else {
+    let Ok((mut sender, configuring)) = Detachment::new(sid, &smmu(), true).send(&ring, sender, 1)
+    else {
         panic!(rt; "it fits");
     };
     configuring.commands_are_reserved();
@@ -19,7 +21,7 @@ fn numbers_of_both_syncs(rt: HostRuntime) -> Result<(), RingFault> {
         (sid, 1)
     );
     let consumer = take(&ring, consumer, 3);
-    let Ok(configured) = configuring.look(&ring, &mut sender) else {
+    let Ok(Next::Endpoint(configured)) = configuring.look(&ring, &mut sender) else {
         panic!(rt; "all three are taken");
     };
     configured.commands_are_applied();

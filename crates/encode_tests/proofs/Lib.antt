@@ -1,1 +1,2 @@
 pub mod WorkedSpellings
+pub mod WorkedWords

@@ -22,7 +22,7 @@ use Rattle.smmu_features.specs.Commands.{IsLegalFor}
 use Rattle.guest_commands.specs.declared.ended.Ended.{Ended}
 use Rattle.guest_commands.specs.declared.ended.Ended.TheVariants.{End, Full, At}
 use Rattle.guest_commands.specs.declared.streams.Attachment.{Attachment}
-use Rattle.guest_commands.specs.Limits.{has_substream}
+use Rattle.guest_commands.specs.Limits.{has_descriptor}
 use Rattle.guest_commands.specs.Mappings.{Mapping, IsMapping}
 use Rattle.guest_commands.specs.HostCommands.{host_words, tlb_command, stream_words, words_or}
 use Rattle.guest_commands.specs.Theorems.{IsIsolated, IsSupported, IsReachedBy, Reaches}
@@ -103,13 +103,9 @@ none_if : (b c : Bool) (x : Option Command) → b ≡ false → cond (b && c) x 
 none_if true c x e = cc
 none_if false c x e = refl
 
-none_of : (b : Bool) (x : Option Command) → b ≡ false → cond b x None ≡ None
-none_of true x e = cc
-none_of false x e = refl
-
 few_streams : (m : Mapping) (command : Command) → IsMapping m → length (filter_map (stream_words m.smmu command) m.streams) ≤ 63
-few_streams m (CfgiCd sid ssid leaf) is = few_of m (CfgiCd sid ssid leaf) sid is (λ stream no. ap words_without (none_if (stream.sid == sid) (has_substream m.smmu ssid) _ no))
-few_streams m (CfgiCdAll sid) is = few_of m (CfgiCdAll sid) sid is (λ stream no. ap words_without (none_of (stream.sid == sid) _ no))
+few_streams m (CfgiCd sid ssid leaf) is = few_of m (CfgiCd sid ssid leaf) sid is (λ stream no. ap words_without (none_if (stream.sid == sid) (has_descriptor m.smmu ssid) _ no))
+few_streams m (CfgiCdAll sid) is = few_of m (CfgiCdAll sid) sid is (λ stream no. ap words_without (none_if (stream.sid == sid) m.smmu.stage_1 _ no))
 few_streams m (AtcInv sid ssv ssid global size page) is =
     few_of m (AtcInv sid ssv ssid global size page) sid is (λ stream no. ap words_without (none_if (stream.sid == sid) (stream.host.ats && m.smmu.ats) _ no))
 few_streams m other is = nothing (stream_words m.smmu other) (λ stream. refl) m.streams

@@ -26,6 +26,7 @@ use Rattle.guest_commands.specs.Appending.{IsSpelledFor, AreHostCommands, AreRea
 use Rattle.guest_commands.proofs.TlbLemmas.{IsGood}
 use Rattle.guest_commands.proofs.StreamLemmas.{good_stream, CoversFor, cd_covers, cd_all_covers, atc_covers}
 use Rattle.guest_commands.proofs.WordLemmas.{legal_words}
+use Rattle.std.proofs.lemmas.Bool.{and_parts}
 
 -- ---- Which stream's command covers an entry.
 
@@ -43,7 +44,7 @@ covered_for : (m : Mapping) (command : Command) (ttl : Ttl) → tlb_command m co
     → IsImage m tag image → IsCoveredFor m command image
 covered_for m (CfgiCd sid ssid leaf) ttl none taken (Cd s u) image e (host, among, had, is) = record { stream = _; among = among; covers = cd_covers m sid ssid leaf s u host image e had is }
 covered_for m (CfgiCd sid ssid leaf) ttl none taken other image e is = cc
-covered_for m (CfgiCdAll sid) ttl none taken (Cd s u) image e (host, among, had, is) = record { stream = _; among = among; covers = cd_all_covers m sid s u host image e is }
+covered_for m (CfgiCdAll sid) ttl none taken (Cd s u) image e (host, among, had, is) = record { stream = _; among = among; covers = cd_all_covers m sid s u host image e (and_parts m.smmu.stage_1 _ had).0 is }
 covered_for m (CfgiCdAll sid) ttl none taken other image e is = cc
 covered_for m (AtcInv sid ssv ssid global size page) ttl none taken (Atc s u p n) image e (host, among, ats, smmu_ats, had, is) =
     record { stream = _; among = among; covers = atc_covers m sid ssv ssid global size page s u p n host image e ats smmu_ats had is }

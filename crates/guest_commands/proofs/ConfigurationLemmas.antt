@@ -1,26 +1,23 @@
 -- The streams whose stream table entries a command is for.
-use Rattle.std.proofs.Common.{◌≡◌, ℕ, zero, suc, ◌<◌, ◌==◌, Bool, true, false, cond, List, [], ◌∷◌, length, get_or, All, Any, Contains, Some, refl, sym, ◌∙◌, ap, subst, arith}
+use Rattle.std.proofs.Common.{◌≡◌, ℕ, zero, suc, ◌<◌, ◌==◌, Bool, true, false, cond, List, [], ◌∷◌, length, get_or, All, Any, Contains, refl, sym, ◌∙◌, ap, subst, arith}
 use Rattle.std.specs.List.{filter}
 use Rattle.std.proofs.lemmas.Bool.{eq-eqb, eqb-true}
 use Rattle.std.proofs.lemmas.List.Elements.{All-contains_itself, All-filter, All-weaker}
 use Rattle.cmdcodec.specs.declared.command.Command.{Command}
 use Rattle.cmdcodec.specs.declared.command.Command.TheVariants.{CfgiSte, CfgiSteRange}
-use Rattle.cmdcodec.specs.declared.opcode.Opcode.{Opcode}
-use Rattle.cmdcodec.specs.declared.opcode.Opcode.TheVariants as opcode
 use Rattle.cmdcodec.specs.declared.raw.Raw.{Raw}
 use Rattle.cmdcodec.specs.Laws.{SpelledWordsAreLegal}
-use Rattle.cmdcodec.specs.Opcodes.{opcode_of, opcode_named}
 use Rattle.cmdcodec.specs.Spelling.{Spells}
 use Rattle.caches.specs.declared.tag.Tag.{Tag}
 use Rattle.caches.specs.declared.tag.Tag.TheVariants.{Ste, Cd}
 use Rattle.caches.specs.Covers.{covers}
 use Rattle.smmu_features.specs.declared.smmu.Smmu.{Smmu}
-use Rattle.smmu_features.specs.Commands.{has_command, IsLegalFor}
+use Rattle.smmu_features.specs.Commands.{IsLegalFor}
 use Rattle.guest_commands.specs.declared.streams.Attachment.{Attachment}
 use Rattle.guest_commands.specs.declared.streams.HostStream.{HostStream}
 use Rattle.guest_commands.specs.Mappings.{Mapping}
 use Rattle.guest_commands.specs.Configurations.{concerned, cfgi_ste, IsOwnEntry, AreConfigured}
-use Rattle.guest_commands.proofs.WordLemmas.{had_by}
+use Rattle.guest_commands.proofs.WordLemmas.{ste_legal_at}
 
 -- ---- Isolation.
 
@@ -71,9 +68,5 @@ configured m other is tag image e at = cc
 
 -- ---- Legal words.
 
-ste_had : (smmu : Smmu) (raw : Raw) (other : Opcode) → opcode_of raw ≡ 0x03 → opcode_named (opcode_of raw) ≡ Some other → has_command smmu other ≡ true
-unfolding opcode_named
-ste_had smmu raw other is found = had_by smmu raw 0x03 opcode.CfgiSte other is refl refl found
-
 pub ste_legal : SpelledWordsAreLegal → (smmu : Smmu) (sid : ℕ) (raw : Raw) → Spells raw (CfgiSte sid false) → IsLegalFor smmu raw
-ste_legal legal smmu sid raw spells = record { words = legal raw (CfgiSte sid false) spells; had = λ other found. ste_had smmu raw other spells.0.0 found }
+ste_legal legal smmu sid raw spells = ste_legal_at smmu raw (legal raw (CfgiSte sid false) spells) spells.0.0

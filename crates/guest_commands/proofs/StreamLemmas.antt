@@ -13,7 +13,7 @@ use Rattle.range_hints.specs.declared.ttl.Ttl.TheVariants.{AnyLevel}
 use Rattle.smmu_features.specs.declared.smmu.Smmu.{Smmu}
 use Rattle.guest_commands.specs.declared.streams.Attachment.{Attachment}
 use Rattle.guest_commands.specs.declared.streams.HostStream.{HostStream}
-use Rattle.guest_commands.specs.Limits.{has_stream, has_substream, has_substreams, has_accesses}
+use Rattle.guest_commands.specs.Limits.{has_stream, has_substream, has_substreams, has_accesses, has_descriptor}
 use Rattle.guest_commands.specs.Mappings.{Mapping, IsMapping}
 use Rattle.guest_commands.specs.HostCommands.{accesses, atc_inv, stream_command}
 use Rattle.guest_commands.specs.Entries.{IsOfGuest}
@@ -34,7 +34,7 @@ own m stream sid rest among e = (stream.sid, stream.host, among, eqb-true sid st
 
 -- ---- CFGI_CD
 
-cd_good : (m : Mapping) (stream : Attachment) (sid ssid : ℕ) (leaf : Bool) → Contains m.streams stream → has_stream m.smmu stream.host.sid ≡ true → has_substream m.smmu ssid ≡ true
+cd_good : (m : Mapping) (stream : Attachment) (sid ssid : ℕ) (leaf : Bool) → Contains m.streams stream → has_stream m.smmu stream.host.sid ≡ true → has_descriptor m.smmu ssid ≡ true
     → IsGoodStream m (CfgiCd sid ssid leaf) (CfgiCd stream.host.sid ssid leaf)
 cd_good m stream sid ssid leaf among had substream =
     record { isolated = isolated; had = (had, substream); narrowed = λ ttl. record { leaf = inl refl; level = inl refl } }
@@ -43,25 +43,26 @@ cd_good m stream sid ssid leaf among had substream =
     isolated (Cd s u) e = own m stream s (u == ssid) among e
     isolated other e = cc
 
-cd_at : (m : Mapping) (stream : Attachment) (sid ssid : ℕ) (leaf : Bool) (host : Command) (b : Bool) → (stream.sid == sid && has_substream m.smmu ssid) ≡ b
+cd_at : (m : Mapping) (stream : Attachment) (sid ssid : ℕ) (leaf : Bool) (host : Command) (b : Bool) → (stream.sid == sid && has_descriptor m.smmu ssid) ≡ b
     → Contains m.streams stream → has_stream m.smmu stream.host.sid ≡ true → cond b (Some (CfgiCd stream.host.sid ssid leaf)) None ≡ Some host → IsGoodStream m (CfgiCd sid ssid leaf) host
 cd_at m stream sid ssid leaf host true e among had is =
-    subst (IsGoodStream m (CfgiCd sid ssid leaf)) (some_same _ host is) (cd_good m stream sid ssid leaf among had (and_parts (stream.sid == sid) (has_substream m.smmu ssid) e).1)
+    subst (IsGoodStream m (CfgiCd sid ssid leaf)) (some_same _ host is) (cd_good m stream sid ssid leaf among had (and_parts (stream.sid == sid) (has_descriptor m.smmu ssid) e).1)
 cd_at m stream sid ssid leaf host false e among had is = cc
 
 -- ---- CFGI_CD_ALL
 
-cd_all_good : (m : Mapping) (stream : Attachment) (sid : ℕ) → Contains m.streams stream → has_stream m.smmu stream.host.sid ≡ true → IsGoodStream m (CfgiCdAll sid) (CfgiCdAll stream.host.sid)
-cd_all_good m stream sid among had = record { isolated = isolated; had = had; narrowed = λ ttl. record { leaf = inl refl; level = inl refl } }
+cd_all_good : (m : Mapping) (stream : Attachment) (sid : ℕ) → Contains m.streams stream → has_stream m.smmu stream.host.sid ≡ true → m.smmu.stage_1 ≡ true → IsGoodStream m (CfgiCdAll sid) (CfgiCdAll stream.host.sid)
+cd_all_good m stream sid among had stage = record { isolated = isolated; had = (had, stage); narrowed = λ ttl. record { leaf = inl refl; level = inl refl } }
   where
     isolated : (tag : Tag) → covers (CfgiCdAll stream.host.sid) tag ≡ true → IsOfGuest m tag
     isolated (Cd s u) e = (stream.sid, stream.host, among, eqb-true s stream.host.sid e)
     isolated other e = cc
 
-cd_all_at : (m : Mapping) (stream : Attachment) (sid : ℕ) (host : Command) (b : Bool) → Contains m.streams stream → has_stream m.smmu stream.host.sid ≡ true
-    → cond b (Some (CfgiCdAll stream.host.sid)) None ≡ Some host → IsGoodStream m (CfgiCdAll sid) host
-cd_all_at m stream sid host true among had is = subst (IsGoodStream m (CfgiCdAll sid)) (some_same _ host is) (cd_all_good m stream sid among had)
-cd_all_at m stream sid host false among had is = cc
+cd_all_at : (m : Mapping) (stream : Attachment) (sid : ℕ) (host : Command) (b : Bool) → (stream.sid == sid && m.smmu.stage_1) ≡ b
+    → Contains m.streams stream → has_stream m.smmu stream.host.sid ≡ true → cond b (Some (CfgiCdAll stream.host.sid)) None ≡ Some host → IsGoodStream m (CfgiCdAll sid) host
+cd_all_at m stream sid host true e among had is =
+    subst (IsGoodStream m (CfgiCdAll sid)) (some_same _ host is) (cd_all_good m stream sid among had (and_parts (stream.sid == sid) m.smmu.stage_1 e).1)
+cd_all_at m stream sid host false e among had is = cc
 
 -- ---- ATC_INV
 
@@ -112,10 +113,10 @@ atc_at m stream sid ssv ssid global size page host false e among had is = cc
 pub good_stream : (m : Mapping) (command : Command) (stream : Attachment) (host : Command) → IsMapping m → Contains m.streams stream → stream_command m.smmu command stream ≡ Some host
     → IsGoodStream m command host
 good_stream m (CfgiCd sid ssid leaf) stream host is_mapping among is =
-    cd_at m stream sid ssid leaf host (stream.sid == sid && has_substream m.smmu ssid) refl among
+    cd_at m stream sid ssid leaf host (stream.sid == sid && has_descriptor m.smmu ssid) refl among
     (All-contains (λ (s : Attachment). has_stream m.smmu s.host.sid ≡ true) m.streams stream is_mapping.had among) is
 good_stream m (CfgiCdAll sid) stream host is_mapping among is =
-    cd_all_at m stream sid host (stream.sid == sid) among (All-contains (λ (s : Attachment). has_stream m.smmu s.host.sid ≡ true) m.streams stream is_mapping.had among) is
+    cd_all_at m stream sid host (stream.sid == sid && m.smmu.stage_1) refl among (All-contains (λ (s : Attachment). has_stream m.smmu s.host.sid ≡ true) m.streams stream is_mapping.had among) is
 good_stream m (AtcInv sid ssv ssid global size page) stream host is_mapping among is =
     atc_at m stream sid ssv ssid global size page host (stream.sid == sid && (stream.host.ats && m.smmu.ats)) refl among
     (All-contains (λ (s : Attachment). has_stream m.smmu s.host.sid ≡ true) m.streams stream is_mapping.had among) is
@@ -136,21 +137,22 @@ if_true : (b : Bool) (x : Option Command) → b ≡ true → cond b x None ≡ x
 if_true true x e = refl
 if_true false x e = cc
 
-pub cd_covers : (m : Mapping) (sid ssid : ℕ) (leaf : Bool) (s u : ℕ) (host : HostStream) (image : Tag) → (s == sid && u == ssid) ≡ true → has_substream m.smmu u ≡ true → image ≡ Cd host.sid u
+pub cd_covers : (m : Mapping) (sid ssid : ℕ) (leaf : Bool) (s u : ℕ) (host : HostStream) (image : Tag) → (s == sid && u == ssid) ≡ true → has_descriptor m.smmu u ≡ true → image ≡ Cd host.sid u
     → CoversFor m.smmu (CfgiCd sid ssid leaf) (record { sid = s; host = host }) image
 cd_covers m sid ssid leaf s u host image e substream is =
     let both = and_parts (s == sid) (u == ssid) e in
-    let had = subst (λ n. has_substream m.smmu n ≡ true) (eqb-true u ssid both.1) substream in
+    let had = subst (λ n. has_descriptor m.smmu n ≡ true) (eqb-true u ssid both.1) substream in
     record {
       host = CfgiCd host.sid ssid leaf;
-      is = if_true (s == sid && has_substream m.smmu ssid) _ (and_from _ _ both.0 had);
+      is = if_true (s == sid && has_descriptor m.smmu ssid) _ (and_from _ _ both.0 had);
       covered = subst (λ t. covers (CfgiCd host.sid ssid leaf) t ≡ true) (sym is) (and_from _ _ (self host.sid) both.1);
     }
 
-pub cd_all_covers : (m : Mapping) (sid s u : ℕ) (host : HostStream) (image : Tag) → (s == sid) ≡ true → image ≡ Cd host.sid u → CoversFor m.smmu (CfgiCdAll sid) (record { sid = s; host = host }) image
-cd_all_covers m sid s u host image e is = record {
+pub cd_all_covers : (m : Mapping) (sid s u : ℕ) (host : HostStream) (image : Tag) → (s == sid) ≡ true → m.smmu.stage_1 ≡ true → image ≡ Cd host.sid u
+    → CoversFor m.smmu (CfgiCdAll sid) (record { sid = s; host = host }) image
+cd_all_covers m sid s u host image e stage is = record {
   host = CfgiCdAll host.sid;
-  is = if_true (s == sid) _ e;
+  is = if_true (s == sid && m.smmu.stage_1) _ (and_from _ _ e stage);
   covered = subst (λ t. covers (CfgiCdAll host.sid) t ≡ true) (sym is) (self host.sid);
 }
 

@@ -3,7 +3,7 @@ use Rattle.std.specs.Prelude.{◌≡◌, ℕ, true}
 use Rattle.caches.specs.declared.tag.Tag.{Tag}
 use Rattle.caches.specs.declared.tag.Tag.TheVariants.{Ste, Cd, S1, S2, El2, Atc}
 use Rattle.guest_commands.specs.declared.streams.HostStream.{HostStream}
-use Rattle.guest_commands.specs.Limits.{has_substream, has_accesses}
+use Rattle.guest_commands.specs.Limits.{has_descriptor, has_accesses}
 use Rattle.guest_commands.specs.Mappings.{Mapping, IsAttached}
 
 -- The entry `image` of the host is what the entry `tag` of the guest is there. The guest has no stage 2 and no EL2, and all
@@ -11,7 +11,7 @@ use Rattle.guest_commands.specs.Mappings.{Mapping, IsAttached}
 abbrev pub IsImage : Mapping → Tag → Tag → Type 0
 IsImage mapping (Ste sid) image = (host : HostStream) × IsAttached mapping sid host × (image ≡ Ste host.sid)
 IsImage mapping (Cd sid ssid) image =
-    (host : HostStream) × IsAttached mapping sid host × (has_substream mapping.smmu ssid ≡ true) × (image ≡ Cd host.sid ssid)
+    (host : HostStream) × IsAttached mapping sid host × (has_descriptor mapping.smmu ssid ≡ true) × (image ≡ Cd host.sid ssid)
 IsImage mapping (S1 vmid scope page span) image = (mapping.smmu.stage_1 ≡ true) × (image ≡ S1 mapping.vmid scope page span)
 IsImage mapping (S2 vmid page span) image = ⊥
 IsImage mapping (El2 scope page span) image = ⊥

@@ -16,7 +16,7 @@ use Rattle.smmu_features.specs.declared.smmu.Smmu.{Smmu}
 use Rattle.invalidations.specs.ByAddress.{single}
 use Rattle.invalidations.specs.Plans.{has_granule}
 use Rattle.guest_commands.specs.declared.streams.Attachment.{Attachment}
-use Rattle.guest_commands.specs.Limits.{has_asid, has_substream, has_substreams, has_accesses}
+use Rattle.guest_commands.specs.Limits.{has_asid, has_descriptor, has_substreams, has_accesses}
 use Rattle.guest_commands.specs.Mappings.{Mapping}
 
 -- ---- How far a TLB invalidation by address reaches.
@@ -94,8 +94,8 @@ atc_inv host ssv size page (Some (ssid, global)) = Some (AtcInv host ssv ssid gl
 -- the host's command for one stream of the host, if the guest's command is of it
 abbrev pub stream_command : Smmu → Command → Attachment → Option Command
 stream_command smmu (CfgiCd sid ssid leaf) stream =
-    if stream.sid == sid && has_substream smmu ssid then Some (CfgiCd stream.host.sid ssid leaf) else None
-stream_command smmu (CfgiCdAll sid) stream = if stream.sid == sid then Some (CfgiCdAll stream.host.sid) else None
+    if stream.sid == sid && has_descriptor smmu ssid then Some (CfgiCd stream.host.sid ssid leaf) else None
+stream_command smmu (CfgiCdAll sid) stream = if stream.sid == sid && smmu.stage_1 then Some (CfgiCdAll stream.host.sid) else None
 stream_command smmu (AtcInv sid ssv ssid global size page) stream =
     if stream.sid == sid && (stream.host.ats && smmu.ats) then atc_inv stream.host.sid ssv size page (accesses smmu ssv ssid global) else None
 stream_command smmu other stream = None

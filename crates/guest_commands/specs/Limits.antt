@@ -21,6 +21,10 @@ has_stream smmu sid = nat_lt sid (2 ^ smmu.stream_bits)
 abbrev pub has_substream : Smmu → ℕ → Bool
 has_substream smmu ssid = nat_lt ssid (2 ^ smmu.substream_bits)
 
+-- the context descriptor of this substream. Without stage 1 there is none.
+abbrev pub has_descriptor : Smmu → ℕ → Bool
+has_descriptor smmu ssid = smmu.stage_1 && has_substream smmu ssid
+
 abbrev pub has_substreams : Smmu → Bool
 has_substreams smmu = nat_lt 0 smmu.substream_bits
 

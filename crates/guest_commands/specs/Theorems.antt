@@ -16,7 +16,7 @@ use Rattle.range_hints.specs.declared.ttl.Ttl.TheVariants.{AnyLevel, Level1}
 use Rattle.range_hints.specs.Hints.{SpellsWithHint, ttl_number}
 use Rattle.smmu_features.specs.declared.smmu.Smmu.{Smmu}
 use Rattle.invalidations.specs.Plans.{has_granule}
-use Rattle.guest_commands.specs.Limits.{has_vmid, has_asid, has_stream, has_substream, has_substreams}
+use Rattle.guest_commands.specs.Limits.{has_vmid, has_asid, has_stream, has_substream, has_substreams, has_descriptor}
 use Rattle.guest_commands.specs.Mappings.{Mapping}
 use Rattle.guest_commands.specs.Entries.{IsImage, IsOfGuest}
 
@@ -49,8 +49,8 @@ HasAccesses smmu true ssid false = (has_substreams smmu ≡ true) × (has_substr
 
 -- It is one of these seven commands, and the SMMU has what it names.
 abbrev pub Has : Smmu → Ttl → Command → Type 0
-Has smmu ttl (CfgiCd sid ssid leaf) = (has_stream smmu sid ≡ true) × (has_substream smmu ssid ≡ true)
-Has smmu ttl (CfgiCdAll sid) = has_stream smmu sid ≡ true
+Has smmu ttl (CfgiCd sid ssid leaf) = (has_stream smmu sid ≡ true) × (has_descriptor smmu ssid ≡ true)
+Has smmu ttl (CfgiCdAll sid) = (has_stream smmu sid ≡ true) × (smmu.stage_1 ≡ true)
 Has smmu ttl (TlbiNhAll vmid) = (smmu.stage_1 ≡ true) × (has_vmid smmu vmid ≡ true)
 Has smmu ttl (TlbiNhAsid vmid asid) = (smmu.stage_1 ≡ true) × (has_vmid smmu vmid ≡ true) × (has_asid smmu asid ≡ true)
 Has smmu ttl (TlbiNhVa vmid asid leaf page reach) =

@@ -1,6 +1,6 @@
 //! What fits the host's SMMU.
 ghost use Rattle.std.specs.Prelude.{◌≡◌, ◌<◌, ◌^◌, nat_lt};
-ghost use Rattle.guest_commands.specs.Limits.{has_vmid, has_asid, has_stream, has_substream, has_substreams};
+ghost use Rattle.guest_commands.specs.Limits.{has_vmid, has_asid, has_stream, has_substream, has_substreams, has_descriptor};
 
 use cmdcodec::{Asid, Sid, Ssid, Vmid};
 use smmu_features::Smmu;
@@ -35,6 +35,12 @@ pub(crate) fn has_substream(smmu: &Smmu, ssid: Ssid) -> bool
     ensures { result ≡ has_substream smmu.now ssid }
 {
     fits(ssid.get(), smmu.substream_bits)
+}
+
+pub(crate) fn has_descriptor(smmu: &Smmu, ssid: Ssid) -> bool
+    ensures { result ≡ has_descriptor smmu.now ssid }
+{
+    smmu.stage_1 && has_substream(smmu, ssid)
 }
 
 pub(crate) fn has_substreams(smmu: &Smmu) -> bool

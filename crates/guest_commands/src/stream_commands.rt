@@ -3,7 +3,7 @@ ghost use Rattle.std.specs.Prelude.{◌≡◌};
 ghost use Rattle.guest_commands.specs.Appending.{IsSpelledFor, AreTried};
 ghost use Rattle.guest_commands.specs.HostCommands.{accesses, atc_inv, stream_command, stream_words};
 
-use crate::limits::{has_substream, has_substreams};
+use crate::limits::{has_descriptor, has_substream, has_substreams};
 use crate::streams::Attachment;
 use cmdcodec::{Command, Page, Raw, Sid, Size, Ssid};
 use invalidations::Body;
@@ -59,14 +59,14 @@ fn stream_command(smmu: &Smmu, command: &Command, stream: &Attachment) -> Option
 {
     let host = stream.host;
     match *command {
-        Command::CfgiCd { sid, ssid, leaf } if stream.sid == sid && has_substream(smmu, ssid) => {
+        Command::CfgiCd { sid, ssid, leaf } if stream.sid == sid && has_descriptor(smmu, ssid) => {
             Some(Command::CfgiCd {
                 sid: host.sid,
                 ssid,
                 leaf,
             })
         }
-        Command::CfgiCdAll { sid } if stream.sid == sid => {
+        Command::CfgiCdAll { sid } if stream.sid == sid && smmu.stage_1 => {
             Some(Command::CfgiCdAll { sid: host.sid })
         }
         Command::AtcInv {

@@ -1,1 +1,2 @@
 pub mod WorkedGuests
+pub mod WorkedTheorems

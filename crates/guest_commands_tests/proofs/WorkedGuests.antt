@@ -3,7 +3,7 @@ use Rattle.std.proofs.Common.{◌≡◌, ◌≢◌, ℕ, zero, suc, ◌+◌, ◌
 use Rattle.std.specs.List.{flat_map}
 use Rattle.cmdcodec.specs.declared.raw.Raw.{Raw}
 use Rattle.cmdcodec.specs.declared.command.Command.{Command}
-use Rattle.cmdcodec.specs.declared.command.Command.TheVariants.{CfgiSte, CfgiCd, TlbiNhAll, TlbiNhAsid, TlbiNhVa, TlbiNhVaa, TlbiEl2All, AtcInv, CmdSync}
+use Rattle.cmdcodec.specs.declared.command.Command.TheVariants.{CfgiSte, CfgiCd, CfgiCdAll, TlbiNhAll, TlbiNhAsid, TlbiNhVa, TlbiNhVaa, TlbiEl2All, AtcInv, CmdSync}
 use Rattle.cmdcodec.specs.declared.reach.Granule.TheVariants.{Kib4, Kib16, Kib64}
 use Rattle.cmdcodec.specs.declared.reach.Reach.TheVariants.{Page, Range}
 use Rattle.caches.specs.declared.tag.Scope.TheVariants.{Global}
@@ -18,7 +18,7 @@ use Rattle.guest_commands.specs.declared.ended.Ended.TheVariants.{End, Full}
 use Rattle.guest_commands.specs.declared.ended.Stop.TheVariants.{Sync, Configure, Refused}
 use Rattle.guest_commands.specs.declared.fault.AttachFault.TheVariants as fault
 use Rattle.guest_commands.specs.declared.streams.Attachment.{Attachment}
-use Rattle.guest_commands.specs.Limits.{has_asid, has_vmid, has_stream, has_substream, has_accesses}
+use Rattle.guest_commands.specs.Limits.{has_asid, has_vmid, has_stream, has_substream, has_descriptor, has_accesses}
 use Rattle.guest_commands.specs.Mappings.{Mapping, IsMapping, AreApart, attached_to, refusal}
 use Rattle.guest_commands.specs.HostCommands.{known_ttl, host_reach, by_va, stream_command}
 use Rattle.guest_commands.specs.Entries.{IsImage, IsOfGuest, IsOwnStream}
@@ -62,6 +62,13 @@ stream_has_17_bits = refl
 
 pub substream_has_9_bits : has_substream smmu 256 ≡ false
 substream_has_9_bits = refl
+
+-- with stage 2 and ATS alone
+abbrev pub without_stage_1 : Smmu
+without_stage_1 = smmu_of 0x401 0x210 0 0x10
+
+pub no_descriptor_without_stage_1 : has_descriptor without_stage_1 0 ≡ false
+no_descriptor_without_stage_1 = refl
 
 pub no_access_with_a_substream : has_accesses poor (Some 0) ≡ false
 no_access_with_a_substream = refl
@@ -151,6 +158,9 @@ asid_of_16_bits_is_not_had (stage, machine, space) = cc
 
 pub vmid_of_16_bits_is_not_had : Has poor AnyLevel (TlbiNhAll 256) → ⊥
 vmid_of_16_bits_is_not_had (stage, machine) = cc
+
+pub descriptors_are_not_had : Has without_stage_1 AnyLevel (CfgiCdAll 0x103) → ⊥
+descriptors_are_not_had had = let wrong : false ≡ true = had.1 in cc
 
 pub substream_is_not_had : Has smmu AnyLevel (CfgiCd 0x103 256 false) → ⊥
 substream_is_not_had (stream, substream) = cc

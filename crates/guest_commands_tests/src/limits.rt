@@ -42,7 +42,15 @@ fn no_stage_1(rt: HostRuntime) {
         stage_1: false,
         ..full()
     };
-    let rows = [(0x30, 0), (0x10, 0), (0x11, 0), (0x12, 0), (0x13, 0)];
+    let rows = [
+        (0x30, 0),
+        (0x10, 0),
+        (0x11, 0),
+        (0x12, 0),
+        (0x13, 0),
+        (0x0000_0003_0000_0005, 0),
+        (0x0000_0003_0000_0006, 0),
+    ];
     expect_nothing(&rt, &guest(&rt, smmu), &rows);
 }
 

@@ -157,10 +157,10 @@ fn has_substream(smmu: &Smmu, ssid: Ssid) -> bool {
     }
 }
 
-/// Whether the host has entries with the tag's substream.
+/// Whether the host has entries with the tag's substream. Without stage 1 it has no context descriptors.
 fn has_substream_of(smmu: &Smmu, tag: &Tag) -> bool {
     match *tag {
-        Tag::Cd { ssid, .. } => has_substream(smmu, ssid),
+        Tag::Cd { ssid, .. } => smmu.stage_1 && has_substream(smmu, ssid),
         Tag::Atc {
             ssid: Some(ssid),
             ..
@@ -324,5 +324,6 @@ fn on_a_host_with_16_kib_granules(rt: HostRuntime) {
 
 #[test]
 fn on_a_host_without_stage_1(rt: HostRuntime) {
-    assert!(rt; judge(&rt, Smmu::from_registers(0x401, 0x210, 0x400, 0x70), 4) > 20_000);
+    // CMD_ATC_INV alone
+    assert!(rt; judge(&rt, Smmu::from_registers(0x401, 0x210, 0x400, 0x70), 4) > 5_000);
 }

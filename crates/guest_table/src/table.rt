@@ -128,9 +128,10 @@ impl GuestTable {
 
     /// A stream of the host was detached, and is no longer leaving: it may be attached again, to any guest.
     ///
-    /// The caller owes that the detachment began after `detach`.
+    /// The caller owes that the detachment began after `detach`, on the ring whose hardware serves these guests, and by
+    /// what that SMMU and the stream have.
     pub fn release(&mut self, detached: Detached)
-        ensures { self.new ≡ released self.old detached.sid }
+        ensures { self.new ≡ released self.old detached.stream.sid }
     {
         let sid = detached.sid();
         self.leaving_streams.retain(|other| *other != sid);

@@ -22,7 +22,7 @@ fn a_stream_moves(rt: HostRuntime) -> Result<(), RingFault> {
         table.attach(other, sid(&rt, 9), stream),
         Err(TableFault::Leaving)
     );
-    table.release(detach(&rt, rt.alloc(), stream.sid)?);
+    table.release(detach(&rt, rt.alloc(), stream)?);
     assert_eq!(rt; table.attach(other, sid(&rt, 9), stream), Ok(()));
     let guest = table.guest(other).expect(&rt, "it is there");
     assert!(rt; guest.is_used(stream.sid));

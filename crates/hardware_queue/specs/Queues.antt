@@ -15,11 +15,14 @@ pub record Stop : Type 0 where
   pub position : ℕ
   pub error : CommandError
 
--- what somebody else read for a queue that doesn't read its registers itself, and all that had been read of it until then
+-- what somebody else read for a queue that doesn't read its registers itself, all that had been read of it until then, and
+-- what he was told at its restarts
 pub record Supplied : Type 0 where
   pub words : RegisterWords
   pub gerrorn : ℕ
   pub before : List Reading
+  -- how many commands the hardware was told to read again, by restarts, modulo 2^32
+  pub again : ℕ
 
 -- A queue with its registers. Positions count from 0 and never wrap: the command at position p is the one
 -- that was shown after p others.

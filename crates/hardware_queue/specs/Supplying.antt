@@ -1,5 +1,5 @@
 -- A queue whose registers somebody else reads.
-use Rattle.std.specs.Prelude.{◌≡◌, ℕ, ◌+◌, ◌/◌, ◌^◌, ◌<◌, List, ◌++◌, length, All, Option, Some, None}
+use Rattle.std.specs.Prelude.{◌≡◌, ℕ, ◌+◌, ◌-◌, ◌/◌, ◌%◌, ◌^◌, ◌<◌, List, ◌++◌, length, All, Option, Some, None}
 use Rattle.qindex.specs.Positions.{place}
 use Rattle.hardware_queue.specs.declared.forwarded.Acknowledgement.{Acknowledgement}
 use Rattle.hardware_queue.specs.declared.restart.Restart.{Restart}
@@ -60,9 +60,14 @@ pub record HasRemediedWith (remedy : Remedy) (gerrorn : ℕ) (found : QueueState
   pub gerrorn_is : told.gerrorn ≡ new.gerrorn
   pub others : told.gerrorn / 2 ≡ gerrorn / 2
 
+-- how many commands the hardware is told to read again, once it is restarted
+abbrev pub again_after : QueueValue → ℕ
+again_after q = (q.supplied.again + (length q.shown - q.consumed)) % 2 ^ 32
+
 -- It was restarted, GERRORN was read with this word then, and the caller is told PROD and CONS: what isn't known to be consumed
 -- lies between them.
 pub record HasRestartedWith (gerrorn : ℕ) (old new : QueueValue) (told : Restart) : Type 0 where
   pub restarted : HasRestarted old new gerrorn
+  pub again : new.supplied.again ≡ again_after old
   pub prod : told.prod ≡ (tail_index new).number
   pub cons : told.cons ≡ (head_index new).number

@@ -90,8 +90,8 @@ impl<Q: CommandQueue> Forwarder<Q> {
         })
     }
 
-    /// Takes as many commands as fit of those that are ready, 64 at most, and shows the hardware what it gets for them
-    /// by one write of PROD. Their slots in the ring are free at once, and none of their CMD_SYNCs is acknowledged. An
+    /// Takes as many commands as fit of those that are ready, 64 at most, and shows the hardware what it gets for them.
+    /// Their slots in the ring are free at once, and none of their CMD_SYNCs is acknowledged. An
     /// illegal command is taken alone, and the hardware isn't shown it.
     pub fn forward(&mut self, ring: &Ring) -> Forwarded
         requires { self.old.consumer.consumer.ring ≡ ring.now }
@@ -216,7 +216,7 @@ impl<Q: CommandQueue> Forwarder<Q> {
         self.owner.restart();
     }
 
-    /// Returns how many commands were lost at the hardware, written over by `acknowledge`; `2^64 - 1` if more.
+    /// Returns how often `acknowledge` wrote over a command at the hardware; `2^64 - 1` if more.
     pub fn lost(&self) -> u64
         ensures { result ≡ count_lost (Q.queue self.now.owner.queue) }
     {

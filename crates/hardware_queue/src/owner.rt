@@ -94,8 +94,7 @@ impl<Q: CommandQueue> Owner<Q> {
         self.prod.geometry().size() - self.prod.distance(self.cons)
     }
 
-    /// Copies as many of these commands as fit into the queue, and then shows them all by one write of PROD.
-    /// Returns how many.
+    /// Copies as many of these commands as fit into the queue, and then shows them all. Returns how many.
     pub fn push(&mut self, raws: &[Raw]) -> u32
         ensures pushed { HasPushed raws.now (Q.queue self.old.queue) (Q.queue self.new.queue)
             result }

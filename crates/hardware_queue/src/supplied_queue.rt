@@ -8,7 +8,7 @@ use crate::register_words::RegisterWords;
 pub trait SuppliedQueue: CommandQueue {
     ghost use Rattle.std.specs.Prelude.{◌≡◌, ◌↔◌, IsTrue};
     ghost use Rattle.hardware_queue.specs.Queues.{MayRestart, HasRestarted};
-    ghost use Rattle.hardware_queue.specs.Supplying.{CanHave, supplied_with, supplied_gerrorn, AreSupplied};
+    ghost use Rattle.hardware_queue.specs.Supplying.{CanHave, supplied_with, supplied_gerrorn, again_after, AreSupplied};
 
     /// Whether the registers of a working queue can have these words.
     fn can_have(&self, words: RegisterWords) -> bool
@@ -26,7 +26,8 @@ pub trait SuppliedQueue: CommandQueue {
     /// Does what `restart` does, by SMMU_GERRORN as it was read then.
     fn restart_with(&mut self, prod: u32, cons: u32, gerrorn: u32)
         requires { MayRestart prod cons (Self.queue self.old) }
-        ensures { HasRestarted (Self.queue self.old) (Self.queue self.new) gerrorn };
+        ensures restarted { HasRestarted (Self.queue self.old) (Self.queue self.new) gerrorn }
+        ensures again { (Self.queue self.new).supplied.again ≡ again_after (Self.queue self.old) };
 
     /// A witness that it answered with the words that it got last, whatever was read since. It does nothing.
     fn answers_are_supplied(&self)

@@ -1,2 +1,4 @@
 pub mod WorkedQueues
 pub mod WorkedMessages
+pub mod WorkedDoubts
+pub mod WorkedPlacing

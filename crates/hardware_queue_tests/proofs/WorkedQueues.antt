@@ -50,7 +50,7 @@ queue shown consumed = record {
   lost = [];
   repeated = [];
   read = [];
-  supplied = record { words = record { gerror = 0; cons = 0 }; gerrorn = 0; before = [] };
+  supplied = record { words = record { gerror = 0; cons = 0 }; gerrorn = 0; before = []; again = 0 };
 }
 
 -- ---- memory
@@ -264,7 +264,7 @@ no_queue_consumes_2_to_the_64 q many can = let few = can.few in absurd (omega (a
 
 -- what it got: GERROR 0, CONS 0 and GERRORN 0
 abbrev pub got : Supplied
-got = record { words = words 0 0; gerrorn = 0; before = [] }
+got = record { words = words 0 0; gerrorn = 0; before = []; again = 0 }
 
 pub another_cons_was_not_supplied : ¬ IsSupplied got (Cons 1)
 another_cons_was_not_supplied is = let same : 1 ≡ 0 = is in absurd (omega (arith, same))

@@ -1,6 +1,6 @@
 -- The least block that holds two pages.
-use Rattle.std.proofs.Common.{◌≡◌, ℕ, suc, ◌+◌, ◌-◌, ◌*◌, ◌/◌, ◌^◌, ◌<◌, ◌≤◌, ◌==◌, not, nat_lt, true, false, inl, inr, Option, Some, None, ap, sym, subst, ◌∙◌, arith}
-use Rattle.std.proofs.lemmas.Bool.{cases_lt, ltb-true, and_parts}
+use Rattle.std.proofs.Common.{◌≡◌, ℕ, suc, ◌+◌, ◌-◌, ◌*◌, ◌/◌, ◌^◌, ◌<◌, ◌≤◌, ◌==◌, not, nat_lt, true, false, inl, inr, Some, None, ap, sym, subst, ◌∙◌, arith}
+use Rattle.std.proofs.lemmas.Bool.{cases_lt, ltb-true, and_parts, and_from}
 use Rattle.std.proofs.lemmas.Nat.{pow_pos, shl-shr, shr_split, mod_below, xor_shr, xor_lt, leading_length}
 use Rattle.std.proofs.Math.Nat.{div-eq_of_lt, div-eq_of_lt-le, pow-suc, pow-le-pow_right}
 use Rattle.std.specs.Int.{w64, leading_zeros}
@@ -13,8 +13,10 @@ use Rattle.caches.specs.Covers.{covers}
 use Rattle.invalidations.specs.declared.endpoint.Endpoint.{Endpoint}
 use Rattle.invalidations.specs.declared.endpoint.Substreams.{Substreams}
 use Rattle.invalidations.specs.declared.endpoint.Substreams.TheVariants.{All, One, Each}
-use Rattle.invalidations.specs.Endpoints.{is_cached, of_substreams, endpoint_command, block_page, IsLeastPower, IsLeastBlock, ReachesEndpoint}
+use Rattle.invalidations.specs.Endpoints.{is_cached, of_substreams, endpoint_command, block_page, IsLeastPower, IsLeastBlock, ReachesEndpoint, has_substreams_of}
 use Rattle.invalidations.proofs.Holding.{not_below, held_is_met, second_too}
+use Rattle.smmu_features.specs.declared.smmu.Smmu.{Smmu}
+use Rattle.invalidations.specs.Reaching.{is_served}
 
 -- ---- Numbers without a differing bit are equal.
 
@@ -116,3 +118,16 @@ reaches endpoint first last power command below small least is =
 
 pub last_page_below : (address : ℕ) → address < 2 ^ 64 → address / 4096 < 2 ^ 52
 last_page_below address below = omega (arith, below)
+
+-- ---- The SMMU has the command.
+
+substreams_served : (smmu : Smmu) (sid : ℕ) (substreams : Substreams) (size page : ℕ) → smmu.ats ≡ true → has_substreams_of smmu substreams ≡ true
+    → is_served smmu (of_substreams sid substreams size page) ≡ true
+substreams_served smmu sid All size page ats has = and_from smmu.ats _ ats has
+substreams_served smmu sid (One ssid) size page ats has = and_from smmu.ats _ ats has
+substreams_served smmu sid Each size page ats has = and_from smmu.ats _ ats has
+
+pub endpoint_served : (smmu : Smmu) (endpoint : Endpoint) (first last : ℕ) (command : Command) → ReachesEndpoint endpoint first last command → smmu.ats ≡ true
+    → has_substreams_of smmu endpoint.substreams ≡ true → is_served smmu command ≡ true
+endpoint_served smmu endpoint first last command reaches ats has =
+    subst (λ c. is_served smmu c ≡ true) (sym reaches.is) (substreams_served smmu endpoint.sid endpoint.substreams reaches.size reaches.page ats has)

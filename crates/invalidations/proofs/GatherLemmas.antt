@@ -1,17 +1,16 @@
 -- What is taken out of what was gathered.
-use Rattle.std.proofs.Common.{◌≡◌, ℕ, suc, ◌+◌, ◌-◌, ◌*◌, ◌^◌, ◌<◌, ◌≤◌, ◌==◌, ◌&&◌, ◌||◌, not, nat_lt, nat_le, Bool, true, false, inl, inr, List, [], ◌∷◌, ◌++◌, length, All, refl, ap, sym, subst, ◌∙◌, arith}
-use Rattle.std.proofs.lemmas.Bool.{cases_Bool, ltb-true, ltb-false, leb-true, lt-ltb, le-ltb, le-leb, ne_eqb, and_from, and_parts, and_right}
+use Rattle.std.proofs.Common.{◌≡◌, ℕ, ◌+◌, ◌-◌, ◌*◌, ◌^◌, ◌<◌, ◌≤◌, ◌==◌, ◌&&◌, ◌||◌, not, nat_lt, nat_le, Bool, true, false, inl, inr, List, [], ◌∷◌, ◌++◌, length, All, refl, ap, sym, subst, ◌∙◌, arith}
+use Rattle.std.proofs.lemmas.Bool.{cases_Bool, ltb-true, ltb-false, leb-true, lt-ltb, le-ltb, le-leb, and_from, and_parts, and_right}
 use Rattle.std.proofs.lemmas.List.{length-append}
 use Rattle.std.proofs.lemmas.List.Folds.{list_any-append}
-use Rattle.std.specs.List.{list_any}
 use Rattle.invalidations.specs.declared.interval.Interval.{Interval}
 use Rattle.invalidations.specs.declared.space.Space.{Space}
 use Rattle.invalidations.specs.declared.invalidation.Bytes.{Bytes}
-use Rattle.invalidations.specs.declared.invalidation.Bytes.TheVariants.{Everything, Range}
+use Rattle.invalidations.specs.declared.invalidation.Bytes.TheVariants.{Everything}
 use Rattle.invalidations.specs.Spaces.{size_of}
 use Rattle.invalidations.specs.Intervals.{has_byte, have_byte, IsBefore}
 use Rattle.invalidations.specs.Plans.{goes_past}
-use Rattle.invalidations.specs.Gathering.{Gathered, IsGathered, holds_byte, is_byte, bytes_of, IsAlike, invalidations_left, IsTaken}
+use Rattle.invalidations.specs.Gathering.{Gathered, IsGathered, is_byte, bytes_of, IsTaken}
 use Rattle.invalidations.proofs.IntervalLemmas.{has_of, of_has, same_bool, last_only}
 use Rattle.invalidations.proofs.RoundingLemmas.{size_most}
 

@@ -9,7 +9,7 @@ use Rattle.cmdcodec.specs.declared.reach.Granule.TheVariants.{Kib4, Kib16, Kib64
 use Rattle.cmdcodec.specs.declared.reach.Reach.{Reach}
 use Rattle.cmdcodec.specs.declared.reach.Reach.TheVariants.{Page, Range}
 use Rattle.cmdcodec.specs.Fields.{field}
-use Rattle.cmdcodec.specs.Words.{decoding}
+use Rattle.cmdcodec.specs.Words.{decoding, encoding}
 use Rattle.cmdcodec.specs.Opcodes.{opcode_of, is_kept, is_sync}
 use Rattle.cmdcodec.specs.Spelling.{Spells, SpellsSteps, SpellsGranule, granule_number}
 use Rattle.cmdcodec.specs.FreeBits.{HasFreeBitsZero, AreZero, DifferInFreeBits, is_among, free_beside, Runs}
@@ -191,8 +191,8 @@ unreserved raw (Range granule num scale) ttl says sayable free small = record {
 }
 
 pub hinted : (command : Command) (ttl : ℕ) (raw : Raw) → IsSaid ttl command → ttl < 4 → Spells raw command → HasFreeBitsZero raw command → decoding raw ≡ Ok command
-    → FreeBitsAreIgnored → AreWordsOf command ttl (record { lo = raw.lo; hi = raw.hi + ttl * 2 ^ 8 })
-hinted command ttl raw (space, leaf, page, reach, is, sayable) small spells free decoded ignored =
+    → raw ≡ encoding command → FreeBitsAreIgnored → AreWordsOf command ttl (record { lo = raw.lo; hi = raw.hi + ttl * 2 ^ 8 })
+hinted command ttl raw (space, leaf, page, reach, is, sayable) small spells free decoded encoded ignored =
     let said = command_for space leaf page reach in
     let spelled = subst (Spells raw) is spells in
     let zero_bits = subst (HasFreeBitsZero raw) is free in
@@ -205,5 +205,6 @@ hinted command ttl raw (space, leaf, page, reach, is, sayable) small spells free
       decoded = sym alike.alike ∙ decoded;
       hint = hint_is raw.hi ttl apart.0 small;
       unreserved = unreserved raw reach ttl reached sayable apart.0 small;
+      reserved = ap (λ (words : Raw). record { lo = words.lo; hi = words.hi + ttl * 2 ^ 8 }) encoded;
       no_sync = reached.no_sync;
     }

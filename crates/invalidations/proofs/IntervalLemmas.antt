@@ -1,12 +1,12 @@
 -- Intervals that are joined.
-use Rattle.std.proofs.Common.{◌≡◌, ℕ, suc, ◌+◌, ◌<◌, ◌≤◌, ◌&&◌, ◌||◌, ◌⊎◌, min, max, nat_le, Bool, true, false, inl, inr, List, [], ◌∷◌, ◌++◌, length, All, refl, ap, sym, subst, ◌∙◌, arith}
-use Rattle.std.proofs.lemmas.Bool.{cases_Bool, cases_lt, leb-true, leb-false, le-leb, lt-leb, and_from, and_parts, and_left, and_right, or_cases, or_left, or_right, or_from}
+use Rattle.std.proofs.Common.{◌≡◌, ℕ, suc, ◌+◌, ◌≤◌, ◌||◌, min, max, nat_le, Bool, true, false, inl, inr, List, [], ◌∷◌, ◌++◌, All, refl, ap, sym, ◌∙◌, arith}
+use Rattle.std.proofs.lemmas.Bool.{cases_lt, leb-true, le-leb, and_from, and_parts, or_cases, or_left, or_right}
 use Rattle.std.proofs.lemmas.List.{length-append}
 use Rattle.std.proofs.lemmas.List.Elements.{All-append, All-cons}
 use Rattle.std.proofs.lemmas.List.Folds.{list_any-append}
 use Rattle.std.specs.List.{list_any}
 use Rattle.invalidations.specs.declared.interval.Interval.{Interval}
-use Rattle.invalidations.specs.Intervals.{has_byte, have_byte, touches, IsBefore, IsWider, AreJoined}
+use Rattle.invalidations.specs.Intervals.{has_byte, have_byte, touches, IsBefore, AreJoined}
 
 -- ---- Bytes of an interval.
 

@@ -22,7 +22,7 @@ use Rattle.invalidations.specs.Spaces.{size_of, command_for, translates}
 use Rattle.invalidations.specs.Targets.{is_leaf, is_hinted, leaf_granules, leaf_pages, Fits}
 use Rattle.invalidations.specs.Pieces.{scale_of, count_of, reached_of}
 use Rattle.invalidations.specs.ByAddress.{single, ranged_reach, reach_of, step_of, command_of, commands_up_to, commands_by_address}
-use Rattle.invalidations.specs.Laws.{pages_from, AreWholeLeaves, IsOfWholeLeaves, IsCoveredBy, has_single, excess, IsWithin, InvalidationsCoverTheirRanges}
+use Rattle.invalidations.specs.Laws.{pages_from, IsOfWholeLeaves, IsCoveredBy, has_single, excess, IsWithin, InvalidationsCoverTheirRanges}
 use Rattle.invalidations.proofs.Holding.{not_below, held_is_met, second_too}
 use Rattle.invalidations.proofs.PieceLemmas.{count_some, reached_is, reached_within, no_single, after_multiple, reached_most}
 use Rattle.invalidations.proofs.LeafLemmas.{leaf_some, pages_some, in_leaves, next_begins, next_whole}

@@ -10,6 +10,7 @@ pub mod FillLemmas
 pub mod WholeLemmas
 pub mod EndpointLemmas
 pub mod ReachLemmas
+pub mod AnyOrderLemmas
 pub mod IntervalLemmas
 pub mod GatherLemmas
 pub mod LegalLemmas

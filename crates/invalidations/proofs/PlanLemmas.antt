@@ -1,5 +1,5 @@
 -- The commands of a plan, one by one.
-use Rattle.std.proofs.Common.{◌≡◌, [], ◌∷◌, ◌++◌, Some, None, refl, ap, sym, ◌∙◌}
+use Rattle.std.proofs.Common.{◌≡◌, [], ◌∷◌, ◌++◌, Some, None, refl, ap}
 use Rattle.cmdcodec.specs.declared.command.Command.{Command}
 use Rattle.invalidations.specs.declared.space.Space.{Space}
 use Rattle.invalidations.specs.declared.request.Request.{Request}

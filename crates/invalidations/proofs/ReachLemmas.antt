@@ -1,7 +1,7 @@
 -- What the commands of an invalidation reach.
-use Rattle.std.proofs.Common.{◌≡◌, ℕ, zero, suc, ◌+◌, ◌-◌, ◌*◌, ◌/◌, ◌%◌, ◌^◌, ◌<◌, ◌≤◌, ◌==◌, ◌&&◌, ◌⊎◌, not, nat_lt, nat_le, Bool, true, false, inl, inr, List, [], ◌∷◌, ◌++◌, length, All, Any, Option, Some, None, refl, ap, sym, subst, ◌∙◌, arith}
-use Rattle.std.proofs.lemmas.Bool.{cases_Bool, cases_lt, eqb-true, eq-eqb, eqb-false, ne_eqb, leb-true, ltb-true, ltb-false, lt-ltb, and_from, and_parts, or_cases}
-use Rattle.std.proofs.lemmas.List.Elements.{All-append, All-cons}
+use Rattle.std.proofs.Common.{◌≡◌, ℕ, zero, suc, ◌+◌, ◌-◌, ◌*◌, ◌/◌, ◌<◌, ◌≤◌, ◌==◌, ◌&&◌, not, nat_lt, nat_le, Bool, true, false, inl, inr, List, [], ◌∷◌, ◌++◌, length, All, Some, None, refl, ap, sym, subst, ◌∙◌, arith, append-nil}
+use Rattle.std.proofs.lemmas.Bool.{cases_Bool, cases_lt, eqb-false, ne_eqb, leb-true, ltb-true, ltb-false, and_from, and_parts, or_cases}
+use Rattle.std.proofs.lemmas.List.Elements.{All-cons}
 use Rattle.std.proofs.Math.Nat.{add-mul, mul_assoc, mul_comm, mul-div_cancel, mul-le-mul_right, div-mul-le_self, div-div-eq-div-mul, div-lt_iff_lt-mul, le-div_iff_mul-le}
 use Rattle.cmdcodec.specs.declared.command.Command.{Command}
 use Rattle.cmdcodec.specs.declared.reach.Granule.{Granule}
@@ -9,8 +9,7 @@ use Rattle.cmdcodec.specs.declared.reach.Granule.TheVariants.{Kib4, Kib16, Kib64
 use Rattle.cmdcodec.specs.declared.reach.Reach.{Reach}
 use Rattle.cmdcodec.specs.PageRuns.{granule_pages, IsIn}
 use Rattle.caches.specs.declared.tag.Tag.{Tag}
-use Rattle.caches.specs.declared.tag.Tag.TheVariants.{S1, S2, El2}
-use Rattle.caches.specs.declared.tag.Scope.{Scope}
+use Rattle.caches.specs.declared.tag.Tag.TheVariants.{S1, El2}
 use Rattle.caches.specs.Blocks.{block, holds}
 use Rattle.caches.specs.Covers.{covers, reaches}
 use Rattle.smmu_features.specs.declared.smmu.Smmu.{Smmu}
@@ -21,20 +20,19 @@ use Rattle.invalidations.specs.declared.request.Target.{Target}
 use Rattle.invalidations.specs.declared.invalidation.Bytes.{Bytes}
 use Rattle.invalidations.specs.declared.invalidation.Bytes.TheVariants.{Everything, Range}
 use Rattle.invalidations.specs.declared.invalidation.ByteRange.{ByteRange}
-use Rattle.invalidations.specs.declared.invalidation.Invalidation.{Invalidation}
 use Rattle.invalidations.specs.declared.policy.Policy.{Policy}
 use Rattle.invalidations.specs.Spaces.{size_of, command_for, translates, whole_command, with_global_pages, is_one, is_of_one}
 use Rattle.invalidations.specs.Targets.{is_leaf, leaf_granules, leaf_pages, leaf_bytes, Fits}
 use Rattle.invalidations.specs.ByAddress.{single, ranged_reach, reach_of, step_of, command_of, commands_up_to, commands_by_address}
-use Rattle.invalidations.specs.Pieces.{reached_of, count_of, scale_of}
+use Rattle.invalidations.specs.Pieces.{reached_of}
 use Rattle.invalidations.proofs.Holding.{second_too}
-use Rattle.invalidations.specs.Laws.{pages_from, excess, IsOfWholeLeaves, IsCoveredBy, IsWithin, Invalidates}
-use Rattle.invalidations.specs.Plans.{Plan, has_stage, has_granule, is_supported, target_of, first_leaf, end_leaf, granules_of, request_of, none_of, are_few, following, fallback_of, wholly, few_or_wholly, commands_for_whole, commands_of, plan_for, plan_of, goes_past, refusal_of}
-use Rattle.invalidations.specs.Reaching.{has_reach, is_served, IsByteOf, IsInLeafOf, BytesAreCovered, IsServed, most_for, IsNested, IsByAddress, IsWhole, AreByAddressOrWhole, IsMeant, Reaches, InvalidationsReachTheirBytes, GatheredBytesAreCovered}
-use Rattle.invalidations.specs.Gathering.{Gathered, holds_byte, is_byte, IsTaken}
+use Rattle.invalidations.specs.Laws.{pages_from, IsCoveredBy, Invalidates}
+use Rattle.invalidations.specs.Plans.{has_stage, has_granule, is_supported, target_of, first_leaf, end_leaf, granules_of, request_of, none_of, are_few, fallback_of, wholly, commands_of, plan_for, goes_past}
+use Rattle.invalidations.specs.Reaching.{has_reach, is_served, IsByteOf, IsInLeafOf, BytesAreCovered, IsServed, most_for, IsByAddress, IsWhole, AreByAddressOrWhole, IsMeant, Reaches, InvalidationsReachTheirBytes, GatheredBytesAreCovered}
+use Rattle.invalidations.specs.Gathering.{holds_byte, is_byte}
 use Rattle.invalidations.proofs.ByAddressLemmas.{none_left}
 use Rattle.invalidations.proofs.LawLemmas.{covered}
-use Rattle.invalidations.proofs.LeafLemmas.{pages_some, granule_some}
+use Rattle.invalidations.proofs.LeafLemmas.{pages_some}
 use Rattle.invalidations.proofs.RoundingLemmas.{bytes_some, in_order, rounded_fits, none_fits}
 use Rattle.invalidations.proofs.WholeLemmas.{whole_covered}
 
@@ -130,13 +128,6 @@ page_of_bytes target bytes page inside =
       | inr some ↦ page_in_leaf target bytes page (let other = eqb-false bytes.length 0 some in omega (arith, other)) (of_granules target bytes page (let other = eqb-false bytes.length 0 some in omega (arith, other)) inside)
     ]
 
-in_front : {P : Command → Type 0} (commands more : List Command) → Any P commands → Any P (commands ++ more)
-in_front {P = P} [] more (k, command, below, is, holds) = absurd (omega (arith, below))
-in_front {P = P} (command ∷ commands) more (zero, found, below, is, holds) = (zero, found, omega arith, is, holds)
-in_front {P = P} (command ∷ commands) more (suc k, found, below, is, holds) =
-    let rest : Any P (commands ++ more) = in_front {P = P} commands more (k, found, (let small : k < length commands = omega (arith, below) in small), is, holds) in
-    (suc rest.0, rest.1, (let small = rest.2 in omega (arith, small)), rest.3, rest.4)
-
 fits_of : (target : Target) (bytes : ByteRange) → goes_past target.space (Range bytes) ≡ false → Fits (request_of target bytes)
 fits_of target bytes inside =
     elim (cases_Bool (bytes.length == 0)) [
@@ -159,22 +150,22 @@ covered_by : (target : Target) (first count page : ℕ) (tag : Tag) (commands : 
 covered_by target first count page tag commands does inside (inl ranged) is = does.by_ranges ranged page inside tag tt is
 covered_by target first count page tag commands does inside (inr whole) is = does.by_leaves page inside tag whole is
 
-by_address : (target : Target) (smmu : Smmu) (policy : Policy) (bytes : ByteRange) → goes_past target.space (Range bytes) ≡ false
-    → are_few (request_of target bytes) policy.most_commands ≡ true
-    → IsByAddress target smmu policy bytes (commands_of (record { request = request_of target bytes; whole = following target.space smmu policy }))
+-- With no whole space there are those by address alone.
+alone : (request : Request) → commands_of (record { request = request; whole = None }) ≡ commands_by_address request
 unfolding commands_of
-by_address target smmu policy bytes inside few =
+alone request = append-nil (commands_by_address request)
+
+by_address : (target : Target) (policy : Policy) (bytes : ByteRange) → goes_past target.space (Range bytes) ≡ false
+    → are_few (request_of target bytes) policy.most_commands ≡ true → IsByAddress target policy bytes (commands_by_address (request_of target bytes))
+by_address target policy bytes inside few =
     let request = request_of target bytes in
     let granules = granules_of target bytes in
     let commands = commands_by_address request in
     let does : Invalidates target granules.first granules.count commands = covered request (fits_of target bytes inside) in
     record {
-      addressed = commands;
-      are = refl;
       covered = λ byte in_bytes tag served is.
-          in_front commands (commands_for_whole (following target.space smmu policy))
-          (covered_by target granules.first granules.count (byte / 4096) tag commands does
-          (to_granules target bytes (byte / 4096) (omega (arith, in_bytes.0, in_bytes.1)) (byte_in_leaves target bytes byte in_bytes)) served is);
+          covered_by target granules.first granules.count (byte / 4096) tag commands does
+          (to_granules target bytes (byte / 4096) (omega (arith, in_bytes.0, in_bytes.1)) (byte_in_leaves target bytes byte in_bytes)) served is;
       within = does.within;
       rounded = λ page in_pages. page_of_bytes target bytes page in_pages;
       few = leb-true (length commands) policy.most_commands few;
@@ -287,54 +278,6 @@ fallback_stage smmu space policy stage =
 only : (smmu : Smmu) (command : Command) → is_served smmu command ≡ true → All (λ command. is_served smmu command ≡ true) (command ∷ [])
 only smmu command is = All-cons (λ command. is_served smmu command ≡ true) command [] is (λ k d below. absurd (omega (arith, below)))
 
-none_served : (smmu : Smmu) → All (λ command. is_served smmu command ≡ true) []
-none_served smmu = λ k d below. absurd (omega (arith, below))
-
-following_served : (smmu : Smmu) (space : Space) (policy : Policy) → All (λ command. is_served smmu command ≡ true) (commands_for_whole (following space smmu policy))
-following_served smmu (Stage1 vmid asid) policy = none_served smmu
-following_served smmu (Hypervisor asid) policy = none_served smmu
-following_served smmu (Stage2 vmid) policy =
-    elim (cases_Bool (policy.nested && smmu.stage_1)) [
-      | inl is ↦ rw is (only smmu (whole_command (Stage1 vmid None)) (and_parts policy.nested smmu.stage_1 is).1)
-      | inr isnt ↦ rw isnt (none_served smmu)
-    ]
-
--- ---- Stage 1 behind stage 2.
-
-behind : {P : Command → Type 0} (commands : List Command) (command : Command) → P command → Any P (commands ++ command ∷ [])
-behind {P = P} [] command holds = (0, command, omega arith, refl, holds)
-behind {P = P} (first ∷ commands) command holds =
-    let rest : Any P (commands ++ command ∷ []) = behind {P = P} commands command holds in
-    (suc rest.0, rest.1, (let small = rest.2 in omega (arith, small)), rest.3, rest.4)
-
-stage1_follows : (commands : List Command) (vmid : ℕ) (smmu : Smmu) (policy : Policy) → policy.nested ≡ true → smmu.stage_1 ≡ true → (scope : Scope) (page span : ℕ)
-    → IsCoveredBy (commands ++ commands_for_whole (following (Stage2 vmid) smmu policy)) (S1 vmid scope page span)
-stage1_follows commands vmid smmu policy asked has scope page span =
-    let both = and_from policy.nested smmu.stage_1 asked has in
-    rw both (behind {P = λ command. covers command (S1 vmid scope page span) ≡ true} commands (whole_command (Stage1 vmid None)) (eq-eqb vmid vmid refl))
-
-nested_by_address : (space : Space) (request : Request) (smmu : Smmu) (policy : Policy)
-    → IsNested space smmu policy (commands_of (record { request = request; whole = following space smmu policy }))
-unfolding commands_of
-nested_by_address (Stage1 vmid asid) request smmu policy = tt
-nested_by_address (Hypervisor asid) request smmu policy = tt
-nested_by_address (Stage2 vmid) request smmu policy = stage1_follows (commands_by_address request) vmid smmu policy
-
-same_machine : (vmid : ℕ) (policy : Policy) (scope : Scope) (page span : ℕ) → covers (whole_command (fallback_of (Stage2 vmid) policy)) (S1 vmid scope page span) ≡ true
-same_machine vmid policy scope page span =
-    elim (cases_Bool policy.global_pages) [
-      | inl may ↦ rw may (eq-eqb vmid vmid refl)
-      | inr own_only ↦ rw own_only (eq-eqb vmid vmid refl)
-    ]
-
-nested_alone : (space : Space) (smmu : Smmu) (policy : Policy) → IsNested space smmu policy (whole_command (fallback_of space policy) ∷ [])
-nested_alone (Stage1 vmid asid) smmu policy = tt
-nested_alone (Hypervisor asid) smmu policy = tt
-nested_alone (Stage2 vmid) smmu policy = λ asked has scope page span. (0, whole_command (fallback_of (Stage2 vmid) policy), omega arith, refl, same_machine vmid policy scope page span)
-
-nested_wholly : (target : Target) (smmu : Smmu) (policy : Policy) → IsNested target.space smmu policy (commands_of (wholly target policy))
-nested_wholly target smmu policy = subst (IsNested target.space smmu policy) (sym (whole_commands target policy)) (nested_alone target.space smmu policy)
-
 -- ---- Together.
 
 IsHad : Smmu → Target → Type 0
@@ -346,41 +289,43 @@ whole_reaches target smmu policy had =
     subst (All (λ command. is_served smmu command ≡ true)) (sym (whole_commands target policy))
     (only smmu (whole_command (fallback_of target.space policy)) (whole_served smmu (fallback_of target.space policy) (fallback_stage smmu target.space policy had.0)))
 
-by_address_served : (target : Target) (smmu : Smmu) (policy : Policy) (request : Request) → request.target ≡ target → IsHad smmu target
-    → All (λ command. is_served smmu command ≡ true) (commands_of (record { request = request; whole = following target.space smmu policy }))
-unfolding IsHad commands_of commands_by_address
-by_address_served target smmu policy request same had =
-    All-append (λ command. is_served smmu command ≡ true) (commands_by_address request) (commands_for_whole (following target.space smmu policy))
-    (served_up_to request.range.count smmu request.target request.range.first request.range.count
+by_address_served : (target : Target) (smmu : Smmu) (request : Request) → request.target ≡ target → IsHad smmu target
+    → All (λ command. is_served smmu command ≡ true) (commands_by_address request)
+unfolding IsHad commands_by_address
+by_address_served target smmu request same had =
+    served_up_to request.range.count smmu request.target request.range.first request.range.count
     (subst (λ t. has_stage smmu t.space ≡ true) (sym same) had.0) (subst (λ (t : Target). t.ranged ≡ smmu.range_invalidation) (sym same) had.2)
-    (subst (λ (t : Target). has_granule smmu t.granule ≡ true) (sym same) had.1))
-    (following_served smmu target.space policy)
+    (subst (λ (t : Target). has_granule smmu t.granule ≡ true) (sym same) had.1)
 
-covered_either_way : (target : Target) (smmu : Smmu) (policy : Policy) (bytes : Bytes) (commands : List Command) → AreByAddressOrWhole target smmu policy bytes commands
+covered_either_way : (target : Target) (policy : Policy) (bytes : Bytes) (commands : List Command) → AreByAddressOrWhole target policy bytes commands
     → BytesAreCovered target bytes (IsMeant target policy) commands
-covered_either_way target smmu policy Everything commands reached = λ byte inside tag meant is. reached.covered byte inside tag meant.1 is
-covered_either_way target smmu policy (Range bytes) commands reached = λ byte inside tag meant is.
+covered_either_way target policy Everything commands reached = λ byte inside tag meant is. reached.covered byte inside tag meant.1 is
+covered_either_way target policy (Range bytes) commands reached = λ byte inside tag meant is.
     elim (cases_Bool (are_few (request_of target bytes) policy.most_commands)) [
       | inl few ↦ (reached.0 few).covered byte inside tag meant.0 is
       | inr many ↦ (reached.1 many).covered byte inside tag meant.1 is
     ]
 
-all_of : (target : Target) (smmu : Smmu) (policy : Policy) (bytes : Bytes) (commands : List Command) → IsNested target.space smmu policy commands
-    → AreByAddressOrWhole target smmu policy bytes commands → All (λ command. is_served smmu command ≡ true) commands → Reaches target smmu policy bytes commands
-all_of target smmu policy bytes commands nested reached served =
-    record { covered = covered_either_way target smmu policy bytes commands reached; nested = nested; reached = reached; served = served }
+all_of : (target : Target) (smmu : Smmu) (policy : Policy) (bytes : Bytes) (commands : List Command)
+    → AreByAddressOrWhole target policy bytes commands → All (λ command. is_served smmu command ≡ true) commands → Reaches target smmu policy bytes commands
+all_of target smmu policy bytes commands reached served =
+    record { covered = covered_either_way target policy bytes commands reached; reached = reached; served = served }
+
+few_reach : (target : Target) (smmu : Smmu) (policy : Policy) (bytes : ByteRange) → IsHad smmu target → goes_past target.space (Range bytes) ≡ false
+    → are_few (request_of target bytes) policy.most_commands ≡ true → Reaches target smmu policy (Range bytes) (commands_by_address (request_of target bytes))
+few_reach target smmu policy bytes had inside few =
+    all_of target smmu policy (Range bytes) (commands_by_address (request_of target bytes))
+    ((λ few_too. by_address target policy bytes inside few), (λ many. absurd (let wrong : true ≡ false = sym few ∙ many in cc)))
+    (by_address_served target smmu (request_of target bytes) refl had)
 
 reaches_for : (target : Target) (smmu : Smmu) (policy : Policy) (bytes : Bytes) → IsHad smmu target → goes_past target.space bytes ≡ false
-    → Reaches target smmu policy bytes (commands_of (plan_for target smmu policy bytes))
+    → Reaches target smmu policy bytes (commands_of (plan_for target policy bytes))
 reaches_for target smmu policy Everything had inside =
-    all_of target smmu policy Everything (commands_of (wholly target policy)) (nested_wholly target smmu policy) (by_whole target policy Everything) (whole_reaches target smmu policy had)
+    all_of target smmu policy Everything (commands_of (wholly target policy)) (by_whole target policy Everything) (whole_reaches target smmu policy had)
 reaches_for target smmu policy (Range bytes) had inside =
     elim (cases_Bool (are_few (request_of target bytes) policy.most_commands)) [
-      | inl few ↦ rw few (all_of target smmu policy (Range bytes) (commands_of (record { request = request_of target bytes; whole = following target.space smmu policy }))
-          (nested_by_address target.space (request_of target bytes) smmu policy)
-          ((λ few_too. by_address target smmu policy bytes inside few), (λ many. absurd (let wrong : true ≡ false = sym few ∙ many in cc)))
-          (by_address_served target smmu policy (request_of target bytes) refl had))
-      | inr many ↦ rw many (all_of target smmu policy (Range bytes) (commands_of (wholly target policy)) (nested_wholly target smmu policy)
+      | inl few ↦ rw few (subst (Reaches target smmu policy (Range bytes)) (sym (alone (request_of target bytes))) (few_reach target smmu policy bytes had inside few))
+      | inr many ↦ rw many (all_of target smmu policy (Range bytes) (commands_of (wholly target policy))
           ((λ few_too. absurd (let wrong : true ≡ false = sym few_too ∙ many in cc)), (λ none_few. by_whole target policy (Range bytes)))
           (whole_reaches target smmu policy had))
     ]

@@ -1,20 +1,19 @@
 -- The granules that hold some bytes are in the space.
-use Rattle.std.proofs.Common.{◌≡◌, ℕ, zero, suc, ◌+◌, ◌-◌, ◌*◌, ◌/◌, ◌%◌, ◌^◌, ◌<◌, ◌≤◌, ◌==◌, false, Some, None, refl, ap, sym, subst, ◌∙◌, arith}
+use Rattle.std.proofs.Common.{◌≡◌, ℕ, ◌+◌, ◌-◌, ◌*◌, ◌/◌, ◌^◌, ◌<◌, ◌≤◌, ◌==◌, false, refl, ap, sym, subst, ◌∙◌, arith}
 use Rattle.std.proofs.lemmas.Bool.{ne_eqb}
 use Rattle.std.proofs.lemmas.Nat.{pow-add}
-use Rattle.std.proofs.Math.Nat.{add-mul, mul_assoc, mul_comm, mul-mod_left, mul-le-mul_right, mul-div_cancel, div-lt_iff_lt-mul, le-div_iff_mul-le, div-mul-le_self, zero-mod}
+use Rattle.std.proofs.Math.Nat.{add-mul, mul_assoc, mul-mod_left, mul-le-mul_right, mul-div_cancel, div-lt_iff_lt-mul, le-div_iff_mul-le, div-mul-le_self, zero-mod}
 use Rattle.cmdcodec.specs.declared.reach.Granule.{Granule}
 use Rattle.cmdcodec.specs.declared.reach.Granule.TheVariants.{Kib4, Kib16, Kib64}
 use Rattle.cmdcodec.specs.PageRuns.{granule_pages}
 use Rattle.invalidations.specs.declared.space.Space.{Space}
 use Rattle.invalidations.specs.declared.space.Space.TheVariants.{Stage1, Hypervisor, Stage2}
-use Rattle.invalidations.specs.declared.request.Request.{Request}
 use Rattle.invalidations.specs.declared.request.Target.{Target}
 use Rattle.invalidations.specs.Spaces.{size_of}
 use Rattle.invalidations.specs.Targets.{leaf_bits, leaf_granules, leaf_pages, leaf_bytes, granules_in, Fits}
-use Rattle.invalidations.specs.Plans.{first_leaf, end_leaf, granules_of, request_of, none_of}
+use Rattle.invalidations.specs.Plans.{granules_of, none_of}
 use Rattle.invalidations.proofs.PieceLemmas.{lower}
-use Rattle.invalidations.proofs.LeafLemmas.{few_bits, leaf_some, granule_some, pages_some}
+use Rattle.invalidations.proofs.LeafLemmas.{few_bits, granule_some, pages_some}
 
 granule_bits : Granule → ℕ
 granule_bits Kib4 = 0

@@ -1,10 +1,10 @@
 -- The command for all pages of a space.
-use Rattle.std.proofs.Common.{◌≡◌, ◌<◌, ◌+◌, ◌==◌, ◌&&◌, true, false, Some, None, Ok, refl, ap, subst, ◌∙◌, arith}
+use Rattle.std.proofs.Common.{◌≡◌, ℕ, ◌+◌, ◌*◌, ◌^◌, ◌==◌, ◌&&◌, true, false, Some, None, Ok, refl, ap, subst, ◌∙◌, arith}
 use Rattle.std.proofs.lemmas.Bool.{and_from, and_parts}
 use Rattle.cmdcodec.specs.declared.raw.Raw.{Raw}
 use Rattle.cmdcodec.specs.declared.command.Command.{Command}
 use Rattle.cmdcodec.specs.Fields.{field}
-use Rattle.cmdcodec.specs.Words.{decoding}
+use Rattle.cmdcodec.specs.Words.{decoding, encoding}
 use Rattle.cmdcodec.specs.Opcodes.{is_sync}
 use Rattle.cmdcodec.specs.Spelling.{Spells}
 use Rattle.cmdcodec.specs.FreeBits.{HasFreeBitsZero}
@@ -15,7 +15,7 @@ use Rattle.invalidations.specs.declared.space.Space.TheVariants.{Stage1, Hypervi
 use Rattle.invalidations.specs.declared.space.Space.{Space}
 use Rattle.invalidations.specs.declared.request.Target.{Target}
 use Rattle.invalidations.specs.Spaces.{whole_command, IsForWhole}
-use Rattle.invalidations.specs.Hints.{ttl_in, AreWordsOf}
+use Rattle.invalidations.specs.Hints.{ttl_in, words_with, AreWordsOf}
 use Rattle.invalidations.specs.Laws.{WholeSpacesAreCovered}
 
 pub whole_covered : WholeSpacesAreCovered
@@ -55,9 +55,14 @@ no_ttl target (Hypervisor (Some asid)) = refl
 no_ttl target (Hypervisor None) = refl
 no_ttl target (Stage2 vmid) = refl
 
+-- without TTL the words are those that are encoded
+without_ttl : (command : Command) (ttl : ℕ) → ttl ≡ 0 → encoding command ≡ words_with ttl command
+without_ttl command ttl none =
+    ap (λ hi. record { lo = (encoding command).lo; hi = hi }) (let same : (encoding command).hi ≡ (encoding command).hi + ttl * 2 ^ 8 = omega (arith, none) in same)
+
 pub whole_words : (target : Target) (command : Command) (raw : Raw) → IsForWhole command → Spells raw command → HasFreeBitsZero raw command
-    → decoding raw ≡ Ok command → AreWordsOf command (ttl_in target command) raw
-whole_words target command raw (space, is) spells free decoded =
+    → decoding raw ≡ Ok command → raw ≡ encoding command → AreWordsOf command (ttl_in target command) raw
+whole_words target command raw (space, is) spells free decoded encoded =
     let said = says space raw (subst (Spells raw) is spells) (subst (HasFreeBitsZero raw) is free) in
     let none : ttl_in target command ≡ 0 = ap (ttl_in target) is ∙ no_ttl target space in
     record {
@@ -68,5 +73,6 @@ whole_words target command raw (space, is) spells free decoded =
         without = λ tg. ((let high = said.high in omega (arith, high)), (let low = said.low in omega (arith, low)), (let low = said.low in omega (arith, low)));
         beside = λ some. absurd (let high = said.high in omega (arith, high, some));
       };
+      reserved = encoded ∙ without_ttl command (ttl_in target command) none;
       no_sync = said.no_sync;
     }

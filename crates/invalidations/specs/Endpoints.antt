@@ -6,12 +6,12 @@ use Rattle.caches.specs.declared.tag.Tag.{Tag}
 use Rattle.caches.specs.Blocks.{aligned, holds}
 use Rattle.caches.specs.Covers.{covers, endpoints}
 use Rattle.smmu_features.specs.declared.smmu.Smmu.{Smmu}
+use Rattle.smmu_features.specs.Commands.{has_accesses}
 use Rattle.invalidations.specs.declared.endpoint.Endpoint.{Endpoint}
 use Rattle.invalidations.specs.declared.endpoint.Substreams.{Substreams}
 use Rattle.invalidations.specs.declared.endpoint.Substreams.TheVariants.{All, One, Each}
 use Rattle.invalidations.specs.declared.invalidation.Bytes.{Bytes}
 use Rattle.invalidations.specs.declared.invalidation.Bytes.TheVariants.{Everything, Range}
-use Rattle.invalidations.specs.declared.invalidation.ByteRange.{ByteRange}
 use Rattle.invalidations.specs.declared.fault.InvalidationFault.{InvalidationFault}
 use Rattle.invalidations.specs.declared.fault.InvalidationFault.TheVariants.{Unsupported, PastEnd}
 
@@ -62,11 +62,20 @@ pub record ReachesEndpoint (endpoint : Endpoint) (first last : ℕ) (command : C
   pub block : IsLeastBlock first last page size
   pub covered : (other : ℕ) → first ≤ other → other ≤ last → (tag : Tag) → is_cached endpoint other tag ≡ true → covers command tag ≡ true
 
-abbrev pub endpoint_refusal : Bytes → Smmu → Option InvalidationFault
-endpoint_refusal Everything smmu = if smmu.ats then None else Some Unsupported
-endpoint_refusal (Range bytes) smmu =
-    if not smmu.ats then Some Unsupported
-    else if not (bytes.length == 0) && nat_lt (2 ^ 64) (bytes.first + bytes.length) then Some PastEnd
+-- The SMMU has such accesses.
+abbrev pub has_substreams_of : Smmu → Substreams → Bool
+has_substreams_of smmu All = has_accesses smmu false 0 false
+has_substreams_of smmu (One ssid) = has_accesses smmu true ssid false
+has_substreams_of smmu Each = has_accesses smmu true 0 true
+
+abbrev pub is_past_end : Bytes → Bool
+is_past_end Everything = false
+is_past_end (Range bytes) = not (bytes.length == 0) && nat_lt (2 ^ 64) (bytes.first + bytes.length)
+
+abbrev pub endpoint_refusal : Endpoint → Bytes → Smmu → Option InvalidationFault
+endpoint_refusal endpoint bytes smmu =
+    if not (smmu.ats && has_substreams_of smmu endpoint.substreams) then Some Unsupported
+    else if is_past_end bytes then Some PastEnd
     else None
 
 -- The command is for these bytes, and there is one if there is a byte.

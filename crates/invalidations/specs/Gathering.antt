@@ -1,5 +1,5 @@
 -- What was gathered to be invalidated.
-use Rattle.std.specs.Prelude.{◌≡◌, ◌<◌, ◌≤◌, ◌⊎◌, ℕ, ◌+◌, ◌-◌, ◌*◌, ◌^◌, ◌==◌, ◌&&◌, ◌||◌, not, nat_lt, nat_le, Bool, true, false, List, [], length, All, Option, Some, None, if◌then◌else◌}
+use Rattle.std.specs.Prelude.{◌≡◌, ◌<◌, ◌≤◌, ◌⊎◌, ℕ, ◌+◌, ◌-◌, ◌*◌, ◌^◌, ◌==◌, ◌&&◌, ◌||◌, nat_lt, nat_le, Bool, true, false, List, [], length, All, Option, Some, None, if◌then◌else◌}
 use Rattle.std.specs.List.{list_any}
 use Rattle.cmdcodec.specs.declared.reach.Granule.{Granule}
 use Rattle.invalidations.specs.declared.entries.Entries.{Entries}
@@ -55,13 +55,18 @@ abbrev pub touch : Gathered → Bytes → Bool
 touch gathered Everything = true
 touch gathered (Range bytes) = bytes.length == 0 || list_any (touches (interval_of bytes)) gathered.intervals
 
--- The bytes were added: nothing is lost, and without the whole space nothing else is there.
+-- There is no room for one more interval.
+abbrev pub IsFull : Gathered → Type 0
+IsFull gathered = length gathered.intervals ≡ 16
+
+-- The bytes were added: nothing is lost, and without the whole space nothing else is there. The whole space is there only if
+-- it was, or is what was added, or there is no room for bytes that touch nothing.
 pub record IsAdded (old : Gathered) (bytes : Bytes) (new : Gathered) : Type 0 where
   pub alike : IsAlike old new
   pub held : (byte : ℕ) → (holds_byte old byte || is_byte byte bytes) ≡ true → holds_byte new byte ≡ true
   pub no_more : new.everything ≡ false → (byte : ℕ) → holds_byte new byte ≡ (holds_byte old byte || is_byte byte bytes)
   pub merged : touch old bytes ≡ true → length new.intervals ≤ length old.intervals
-  pub whole : new.everything ≡ true → (old.everything ≡ true) ⊎ ((bytes ≡ Everything) ⊎ (length old.intervals ≡ 16))
+  pub whole : new.everything ≡ true → (old.everything ≡ true) ⊎ ((bytes ≡ Everything) ⊎ (IsFull old × (touch old bytes ≡ false)))
 
 -- The same for an interval.
 pub record IsIntervalAdded (old : Gathered) (interval : Interval) (new : Gathered) : Type 0 where
@@ -69,7 +74,7 @@ pub record IsIntervalAdded (old : Gathered) (interval : Interval) (new : Gathere
   pub held : (byte : ℕ) → (holds_byte old byte || has_byte byte interval) ≡ true → holds_byte new byte ≡ true
   pub no_more : new.everything ≡ false → (byte : ℕ) → holds_byte new byte ≡ (holds_byte old byte || has_byte byte interval)
   pub merged : list_any (touches interval) old.intervals ≡ true → length new.intervals ≤ length old.intervals
-  pub whole : new.everything ≡ true → (old.everything ≡ true) ⊎ (length old.intervals ≡ 16)
+  pub whole : new.everything ≡ true → (old.everything ≡ true) ⊎ (IsFull old × (list_any (touches interval) old.intervals ≡ false))
 
 -- how many invalidations are to come
 abbrev pub invalidations_left : Gathered → ℕ

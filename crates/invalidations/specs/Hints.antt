@@ -1,5 +1,5 @@
 -- The words of a command by address, with TTL.
-use Rattle.std.specs.Prelude.{◌≡◌, ◌<◌, ℕ, ◌+◌, Bool, false, [], ◌∷◌, Option, Some, None, is_some, Ok, if◌then◌else◌}
+use Rattle.std.specs.Prelude.{◌≡◌, ◌<◌, ℕ, ◌+◌, ◌*◌, ◌^◌, Bool, false, [], ◌∷◌, Option, Some, None, is_some, Ok, if◌then◌else◌}
 use Rattle.cmdcodec.specs.declared.raw.Raw.{Raw}
 use Rattle.cmdcodec.specs.declared.command.Command.{Command}
 use Rattle.cmdcodec.specs.declared.reach.Reach.{Reach}
@@ -8,7 +8,7 @@ use Rattle.cmdcodec.specs.Fields.{field}
 use Rattle.cmdcodec.specs.PageRuns.{run_of}
 use Rattle.cmdcodec.specs.Opcodes.{is_sync}
 use Rattle.cmdcodec.specs.Spelling.{Spells}
-use Rattle.cmdcodec.specs.Words.{decoding}
+use Rattle.cmdcodec.specs.Words.{decoding, encoding}
 use Rattle.invalidations.specs.declared.space.Space.{Space}
 use Rattle.invalidations.specs.declared.request.Request.{Request}
 use Rattle.invalidations.specs.declared.request.Target.{Target}
@@ -30,12 +30,17 @@ pub record IsUnreserved (raw : Raw) : Type 0 where
   pub without : field raw.hi 11 10 ≡ 0 → (field raw.hi 9 8 ≡ 0) × (field raw.lo 16 12 ≡ 0) × (field raw.lo 24 20 ≡ 0)
   pub beside : 0 < field raw.hi 11 10 → 0 < field raw.lo 16 12 + field raw.lo 24 20 + field raw.hi 9 8
 
+-- the words of the command with TTL in bits 9:8 of hi, and every bit without a field 0
+abbrev pub words_with : ℕ → Command → Raw
+words_with ttl command = record { lo = (encoding command).lo; hi = (encoding command).hi + ttl * 2 ^ 8 }
+
 -- The words spell the command, with this TTL.
 pub record AreWordsOf (command : Command) (ttl : ℕ) (raw : Raw) : Type 0 where
   pub spelled : Spells raw command
   pub decoded : decoding raw ≡ Ok command
   pub hint : field raw.hi 9 8 ≡ ttl
   pub unreserved : IsUnreserved raw
+  pub reserved : raw ≡ words_with ttl command
   pub no_sync : is_sync raw ≡ false
 
 -- The reach can be said with this TTL.

@@ -1,5 +1,5 @@
 -- Intervals of bytes, and what is in them.
-use Rattle.std.specs.Prelude.{◌≡◌, ◌<◌, ◌≤◌, ℕ, ◌+◌, ◌*◌, ◌&&◌, ◌||◌, nat_le, Bool, true, List, length, All}
+use Rattle.std.specs.Prelude.{◌≡◌, ◌<◌, ◌≤◌, ℕ, ◌+◌, ◌&&◌, ◌||◌, nat_le, Bool, true, List, length, All}
 use Rattle.std.specs.List.{list_any}
 use Rattle.invalidations.specs.declared.interval.Interval.{Interval}
 

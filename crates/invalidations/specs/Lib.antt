@@ -10,3 +10,4 @@ pub mod Plans
 pub mod Intervals
 pub mod Gathering
 pub mod Reaching
+pub mod AnyOrder

@@ -1,5 +1,5 @@
 -- What is sent for an invalidation.
-use Rattle.std.specs.Prelude.{ℕ, ◌+◌, ◌-◌, ◌*◌, ◌/◌, ◌^◌, ◌==◌, ◌&&◌, ◌||◌, not, nat_lt, nat_le, Bool, true, false, List, [], ◌∷◌, ◌++◌, length, Option, Some, None, Result, Ok, Err, if◌then◌else◌}
+use Rattle.std.specs.Prelude.{ℕ, ◌+◌, ◌-◌, ◌*◌, ◌/◌, ◌==◌, ◌&&◌, not, nat_lt, nat_le, Bool, false, List, [], ◌∷◌, ◌++◌, length, Option, Some, None, Result, Ok, Err, if◌then◌else◌}
 use Rattle.cmdcodec.specs.declared.command.Command.{Command}
 use Rattle.cmdcodec.specs.declared.reach.Granule.{Granule}
 use Rattle.cmdcodec.specs.declared.reach.Granule.TheVariants.{Kib4, Kib16, Kib64}
@@ -78,7 +78,7 @@ none_of target = record { target = target; range = record { first = 0; count = 0
 
 -- ---- What is sent.
 
--- commands by address, and behind them one for a whole space, if there is one
+-- commands by address, or in their place one for a whole space
 pub record Plan : Type 0 where
   pub request : Request
   pub whole : Option Space
@@ -94,12 +94,6 @@ commands_of plan = commands_by_address plan.request ++ commands_for_whole plan.w
 abbrev pub fallback_of : Space → Policy → Space
 fallback_of space policy = if policy.global_pages then with_global_pages space else space
 
--- what follows stage 2 by address: all of stage 1 of the virtual machine, if it is asked for
-abbrev pub following : Space → Smmu → Policy → Option Space
-following (Stage1 vmid asid) smmu policy = None
-following (Hypervisor asid) smmu policy = None
-following (Stage2 vmid) smmu policy = if policy.nested && smmu.stage_1 then Some (Stage1 vmid None) else None
-
 abbrev pub wholly : Target → Policy → Plan
 wholly target policy = record { request = none_of target; whole = Some (fallback_of target.space policy) }
 
@@ -108,17 +102,23 @@ abbrev pub are_few : Request → ℕ → Bool
 are_few request most = nat_le (length (commands_by_address request)) most
 
 -- these commands by address, if they are few enough
-abbrev pub few_or_wholly : Request → Smmu → Policy → Plan
-few_or_wholly request smmu policy =
-    if are_few request policy.most_commands then record { request = request; whole = following request.target.space smmu policy }
+abbrev pub few_or_wholly : Request → Policy → Plan
+few_or_wholly request policy =
+    if are_few request policy.most_commands then record { request = request; whole = None }
     else wholly request.target policy
 
-abbrev pub plan_for : Target → Smmu → Policy → Bytes → Plan
-plan_for target smmu policy Everything = wholly target policy
-plan_for target smmu policy (Range bytes) = few_or_wholly (request_of target bytes) smmu policy
+abbrev pub plan_for : Target → Policy → Bytes → Plan
+plan_for target policy Everything = wholly target policy
+plan_for target policy (Range bytes) = few_or_wholly (request_of target bytes) policy
 
 abbrev pub plan_of : Invalidation → Smmu → Policy → Plan
-plan_of invalidation smmu policy = plan_for (target_of invalidation smmu) smmu policy invalidation.bytes
+plan_of invalidation smmu policy = plan_for (target_of invalidation smmu) policy invalidation.bytes
+
+-- What is still to be invalidated behind a change of stage 2: stage 1 of the virtual machine, whose translations go through it.
+abbrev pub stage_1_behind : Space → Smmu → Option Space
+stage_1_behind (Stage1 vmid asid) smmu = None
+stage_1_behind (Hypervisor asid) smmu = None
+stage_1_behind (Stage2 vmid) smmu = if smmu.stage_1 then Some (Stage1 vmid None) else None
 
 -- ---- What is refused.
 

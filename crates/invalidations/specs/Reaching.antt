@@ -1,20 +1,15 @@
 -- What the commands of an invalidation reach.
-use Rattle.std.specs.Prelude.{◌≡◌, ◌<◌, ◌≤◌, ◌⊎◌, ℕ, ◌+◌, ◌*◌, ◌/◌, ◌^◌, ◌&&◌, Bool, true, false, List, ◌++◌, length, All, None, if◌then◌else◌}
+use Rattle.std.specs.Prelude.{◌≡◌, ◌<◌, ◌≤◌, ◌⊎◌, ℕ, ◌+◌, ◌/◌, ◌^◌, ◌&&◌, Bool, true, false, List, length, All, None, if◌then◌else◌, Option, Some}
 use Rattle.cmdcodec.specs.declared.command.Command.{Command}
 use Rattle.cmdcodec.specs.declared.command.Command.TheVariants.{TlbiNhAll, TlbiNhAsid, TlbiNhVa, TlbiNhVaa, TlbiEl2All, TlbiEl2Asid, TlbiEl2Va, TlbiEl2Vaa, TlbiS12Vmall, TlbiS2Ipa, AtcInv}
 use Rattle.cmdcodec.specs.declared.reach.Reach.{Reach}
 use Rattle.cmdcodec.specs.declared.reach.Reach.TheVariants as reach
-use Rattle.cmdcodec.specs.declared.reach.PageRun.{PageRun}
 use Rattle.cmdcodec.specs.PageRuns.{IsIn}
 use Rattle.caches.specs.declared.tag.Tag.{Tag}
-use Rattle.caches.specs.declared.tag.Tag.TheVariants.{S1}
-use Rattle.caches.specs.declared.tag.Scope.{Scope}
 use Rattle.cmdcodec.specs.declared.raw.Raw.{Raw}
 use Rattle.cmdcodec.specs.Spelling.{Spells}
 use Rattle.smmu_features.specs.declared.smmu.Smmu.{Smmu}
-use Rattle.smmu_features.specs.Commands.{IsLegalFor}
-use Rattle.invalidations.specs.declared.space.Space.{Space}
-use Rattle.invalidations.specs.declared.space.Space.TheVariants.{Stage1, Hypervisor, Stage2}
+use Rattle.smmu_features.specs.Commands.{has_accesses, IsLegalFor}
 use Rattle.invalidations.specs.declared.request.Target.{Target}
 use Rattle.invalidations.specs.declared.invalidation.Bytes.{Bytes}
 use Rattle.invalidations.specs.declared.invalidation.Bytes.TheVariants.{Everything, Range}
@@ -25,7 +20,7 @@ use Rattle.invalidations.specs.Spaces.{translates, is_one, is_of_one}
 use Rattle.invalidations.specs.Targets.{leaf_granules, leaf_pages, leaf_bytes}
 use Rattle.invalidations.specs.Laws.{pages_from, excess, IsOfWholeLeaves, IsCoveredBy, IsWithin}
 use Rattle.invalidations.specs.Gathering.{Gathered, holds_byte, IsTaken}
-use Rattle.invalidations.specs.Plans.{has_granule, granules_of, request_of, are_few, following, commands_for_whole, commands_of, plan_of, refusal_of, target_of}
+use Rattle.invalidations.specs.Plans.{has_granule, granules_of, request_of, are_few, commands_of, plan_of, refusal_of, target_of}
 
 -- ---- Bytes.
 
@@ -49,7 +44,7 @@ has_reach smmu reach.Page = true
 has_reach smmu (reach.Range tg num scale) = smmu.range_invalidation && has_granule smmu tg
 
 -- It is a TLB invalidation of a stage that the SMMU has, and a range only where it has ranges of that granule; or one for an
--- endpoint, where it has ATS.
+-- endpoint, where it has ATS and the accesses.
 abbrev pub is_served : Smmu → Command → Bool
 is_served smmu (TlbiNhAll vmid) = smmu.stage_1
 is_served smmu (TlbiNhAsid vmid asid) = smmu.stage_1
@@ -61,8 +56,13 @@ is_served smmu (TlbiEl2Va asid leaf page reach) = smmu.hypervisor && has_reach s
 is_served smmu (TlbiEl2Vaa leaf page reach) = smmu.hypervisor && has_reach smmu reach
 is_served smmu (TlbiS12Vmall vmid) = smmu.stage_2
 is_served smmu (TlbiS2Ipa vmid leaf page reach) = smmu.stage_2 && has_reach smmu reach
-is_served smmu (AtcInv sid ssv ssid global size page) = smmu.ats
+is_served smmu (AtcInv sid ssv ssid global size page) = smmu.ats && has_accesses smmu ssv ssid global
 is_served smmu other = false
+
+-- If there is a command, the SMMU has it.
+abbrev pub IsServedIfAny : Smmu → Option Command → Type 0
+IsServedIfAny smmu None = Unit {0}
+IsServedIfAny smmu (Some command) = is_served smmu command ≡ true
 
 -- The words of each such command are legal for the SMMU.
 abbrev pub ServedWordsAreLegal : Type 0
@@ -78,23 +78,13 @@ IsServed target tag = (target.ranged ≡ true) ⊎ IsOfWholeLeaves target tag
 abbrev pub most_for : Target → ℕ → ℕ
 most_for target count = if target.ranged then 8 + count / 2 ^ 36 else count / leaf_granules target
 
--- Behind stage 2 no translation of stage 1 of the virtual machine is left either, if that is asked for.
-abbrev pub IsNested : Space → Smmu → Policy → List Command → Type 0
-IsNested (Stage1 vmid asid) smmu policy commands = Unit {0}
-IsNested (Hypervisor asid) smmu policy commands = Unit {0}
-IsNested (Stage2 vmid) smmu policy commands =
-    policy.nested ≡ true → smmu.stage_1 ≡ true → (scope : Scope) (page span : ℕ) → IsCoveredBy commands (S1 vmid scope page span)
-
--- The commands by address: they reach the leaves that hold the bytes and the granule in excess, and nothing else; all
--- of stage 1 follows them if that is asked for.
-pub record IsByAddress (target : Target) (smmu : Smmu) (policy : Policy) (bytes : ByteRange) (commands : List Command) : Type 0 where
-  pub addressed : List Command
-  pub are : commands ≡ addressed ++ commands_for_whole (following target.space smmu policy)
+-- The commands by address: they reach the leaves that hold the bytes and the granule in excess, and nothing else.
+pub record IsByAddress (target : Target) (policy : Policy) (bytes : ByteRange) (commands : List Command) : Type 0 where
   pub covered : BytesAreCovered target (Range bytes) (IsServed target) commands
-  pub within : (let granules = granules_of target bytes in All (IsWithin target (pages_from target.granule granules.first (granules.count + excess target granules.count))) addressed)
+  pub within : (let granules = granules_of target bytes in All (IsWithin target (pages_from target.granule granules.first (granules.count + excess target granules.count))) commands)
   pub rounded : (let granules = granules_of target bytes in (page : ℕ) → IsIn page (pages_from target.granule granules.first granules.count) → IsInLeafOf target bytes page)
-  pub few : length addressed ≤ policy.most_commands
-  pub fewer : length addressed ≤ most_for target (granules_of target bytes).count
+  pub few : length commands ≤ policy.most_commands
+  pub fewer : length commands ≤ most_for target (granules_of target bytes).count
 
 -- The tag isn't one that the command for the whole space spares: a global one of one address space, where the policy says that
 -- no page is global.
@@ -107,10 +97,10 @@ pub record IsWhole (target : Target) (policy : Policy) (bytes : Bytes) (commands
   pub covered : BytesAreCovered target bytes (IsUnspared target policy) commands
 
 -- By address, where few commands are enough, and wholly where not.
-abbrev pub AreByAddressOrWhole : Target → Smmu → Policy → Bytes → List Command → Type 0
-AreByAddressOrWhole target smmu policy Everything commands = IsWhole target policy Everything commands
-AreByAddressOrWhole target smmu policy (Range bytes) commands =
-    (are_few (request_of target bytes) policy.most_commands ≡ true → IsByAddress target smmu policy bytes commands)
+abbrev pub AreByAddressOrWhole : Target → Policy → Bytes → List Command → Type 0
+AreByAddressOrWhole target policy Everything commands = IsWhole target policy Everything commands
+AreByAddressOrWhole target policy (Range bytes) commands =
+    (are_few (request_of target bytes) policy.most_commands ≡ true → IsByAddress target policy bytes commands)
     × (are_few (request_of target bytes) policy.most_commands ≡ false → IsWhole target policy (Range bytes) commands)
 
 -- By ranges or from such a leaf, and not one that is spared.
@@ -120,8 +110,7 @@ IsMeant target policy tag = IsServed target tag × IsUnspared target policy tag
 pub record Reaches (target : Target) (smmu : Smmu) (policy : Policy) (bytes : Bytes) (commands : List Command) : Type 0 where
   -- either way
   pub covered : BytesAreCovered target bytes (IsMeant target policy) commands
-  pub nested : IsNested target.space smmu policy commands
-  pub reached : AreByAddressOrWhole target smmu policy bytes commands
+  pub reached : AreByAddressOrWhole target policy bytes commands
   pub served : All (λ command. is_served smmu command ≡ true) commands
 
 -- The commands of each invalidation that isn't refused.

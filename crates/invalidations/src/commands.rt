@@ -2,7 +2,7 @@
 ghost use Rattle.std.specs.Prelude.{◌≡◌, ◌<◌, ◌≤◌, [], None, Some, IfSome, true, false};
 ghost use Rattle.invalidations.specs.ByAddress.{preceded_by, commands_by_address};
 ghost use Rattle.invalidations.specs.Spaces.{IsForWhole};
-ghost use Rattle.invalidations.specs.Plans.{commands_of, planned, wholly, few_or_wholly, fallback_of, following};
+ghost use Rattle.invalidations.specs.Plans.{commands_of, planned, wholly, few_or_wholly, fallback_of};
 
 use crate::by_address::CommandsByAddress;
 use crate::fault::InvalidationFault;
@@ -18,7 +18,7 @@ use std::marker::Model;
 #[derive(Clone, Copy, Debug)]
 pub struct Commands {
     pub(crate) by_address: CommandsByAddress,
-    /// The space whose pages are all invalidated behind those.
+    /// The space whose pages are all invalidated in place of those.
     whole: Option<Space>,
 }
 
@@ -53,7 +53,6 @@ impl Commands {
                 None => Err(InvalidationFault::PastEnd),
                 Some(request) => Ok(Commands::few_or_wholly(
                     CommandsByAddress::new(request),
-                    smmu,
                     policy,
                 )),
             },
@@ -86,17 +85,16 @@ impl Commands {
         }
     }
 
-    /// The commands by address and what follows them, if they are few enough.
-    fn few_or_wholly(by_address: CommandsByAddress, smmu: &Smmu, policy: &Policy) -> Commands
-        ensures { result ≡ few_or_wholly by_address smmu.now policy.now }
+    /// The commands by address, if they are few enough.
+    fn few_or_wholly(by_address: CommandsByAddress, policy: &Policy) -> Commands
+        ensures { result ≡ few_or_wholly by_address policy.now }
     {
-        let target = by_address.target();
         if !by_address.are_few(policy.most_commands) {
-            return Commands::wholly(&target, policy);
+            return Commands::wholly(&by_address.target(), policy);
         }
         Commands {
             by_address,
-            whole: following(&target, smmu, policy),
+            whole: None,
         }
     }
 
@@ -123,17 +121,5 @@ fn fallback(target: &Target, policy: &Policy) -> Space
         target.space.with_global_pages()
     } else {
         target.space
-    }
-}
-
-/// What follows stage 2 by address.
-fn following(target: &Target, smmu: &Smmu, policy: &Policy) -> Option<Space>
-    ensures { result ≡ following target.now.space smmu.now policy.now }
-{
-    match target.space {
-        Space::Stage2 { vmid } if policy.nested && smmu.stage_1 => {
-            Some(Space::Stage1 { vmid, asid: None })
-        }
-        _ => None,
     }
 }

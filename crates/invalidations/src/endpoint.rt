@@ -1,6 +1,7 @@
 //! The block of pages that an endpoint drops from its cache.
-ghost use Rattle.std.specs.Prelude.{◌≡◌, ◌≤◌, ◌<◌, ◌/◌, ◌^◌, ℕ, Some, None, OnOk, IfOk, IfErr};
-ghost use Rattle.invalidations.specs.Endpoints.{endpoint_command, block_page, IsLeastPower, ReachesEndpoint, endpoint_refusal, IsForBytes};
+ghost use Rattle.std.specs.Prelude.{◌≡◌, ◌≤◌, ◌<◌, ◌/◌, ◌^◌, ℕ, Some, None, true, OnOk, IfOk, IfErr};
+ghost use Rattle.invalidations.specs.Endpoints.{endpoint_command, block_page, IsLeastPower, ReachesEndpoint, has_substreams_of, endpoint_refusal, IsForBytes};
+ghost use Rattle.invalidations.specs.Reaching.{IsServedIfAny};
 
 use crate::fault::InvalidationFault;
 use crate::invalidation::{ByteRange, Bytes};
@@ -25,20 +26,35 @@ pub struct Endpoint {
     pub substreams: Substreams,
 }
 
+impl Substreams {
+    /// Whether the SMMU has such accesses.
+    fn are_of(self, smmu: &Smmu) -> bool
+        ensures { result ≡ has_substreams_of smmu.now self }
+    {
+        match self {
+            Substreams::All => true,
+            Substreams::One(ssid) => smmu.has_accesses(true, ssid, false),
+            Substreams::Each => smmu.has_accesses(true, Ssid::new(0).unwrap(), true),
+        }
+    }
+}
+
 impl Endpoint {
     /// Returns the CMD_ATC_INV for the least block that holds these bytes, or `None` if there is no byte. It is
-    /// refused where the SMMU has no ATS, or a byte is past the last address.
-    #[tactic(auto, using(crate::proofs::EndpointLemmas::last_page_below))]
+    /// refused where the SMMU has no ATS or not these substreams, and then where a byte is past the last address.
+    #[tactic(auto, using(crate::proofs::EndpointLemmas::last_page_below, crate::proofs::EndpointLemmas::endpoint_served))]
     pub fn invalidate(
         &self,
         bytes: &Bytes,
         smmu: &Smmu,
     ) -> Result<Option<Command>, InvalidationFault>
-        ensures made { OnOk result (endpoint_refusal bytes.now smmu.now ≡ None) }
+        ensures made { OnOk result (endpoint_refusal self.now bytes.now smmu.now ≡ None) }
         ensures reached { IfOk result (IsForBytes self.now bytes.now) }
-        ensures refused { IfErr result (λ fault. endpoint_refusal bytes.now smmu.now ≡ Some fault) }
+        ensures served { IfOk result (IsServedIfAny smmu.now) }
+        ensures refused { IfErr result (λ fault. endpoint_refusal self.now bytes.now smmu.now
+            ≡ Some fault) }
     {
-        if !smmu.ats {
+        if !(smmu.ats && self.substreams.are_of(smmu)) {
             return Err(InvalidationFault::Unsupported);
         }
         let (first, last) = match *bytes {

@@ -28,8 +28,8 @@ pub use gather::Gather;
 pub use interval::MOST_INTERVALS;
 pub use invalidation::{ByteRange, Bytes, Invalidation};
 pub use laws::{
-    gathered_bytes_are_covered, invalidations_cover_their_ranges, invalidations_reach_their_bytes,
-    served_words_are_legal, whole_spaces_are_covered,
+    batches_are_clean_in_any_order, gathered_bytes_are_covered, invalidations_cover_their_ranges,
+    invalidations_reach_their_bytes, served_words_are_legal, whole_spaces_are_covered,
 };
 pub use policy::Policy;
 pub use space::Space;

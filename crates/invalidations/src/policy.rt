@@ -8,6 +8,4 @@ pub struct Policy {
     /// Whether some page may be global (nG 0). The commands for an address space by ASID spare such a page, so
     /// that those of its VMID, or of EL2, are invalidated in their place.
     pub global_pages: bool,
-    /// Whether stage 2 is followed by all of stage 1 of that VMID, as the parent of a nested stage 1 needs.
-    pub nested: bool,
 }

@@ -1,2 +1,4 @@
 pub mod WorkedRegisters
 pub mod WorkedInvalidations
+pub mod WorkedOrders
+pub mod WorkedReaching

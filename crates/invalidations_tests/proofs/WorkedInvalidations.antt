@@ -1,9 +1,6 @@
 -- What the definitions say of single invalidations.
-use Rattle.std.proofs.Common.{◌≡◌, ℕ, ◌*◌, ◌/◌, ◌%◌, ◌^◌, ◌<◌, ◌≤◌, Bool, true, false, [], Option, Some, None, refl, sym, ap, subst, arith}
-use Rattle.cmdcodec.specs.declared.command.Command.{Command}
+use Rattle.std.proofs.Common.{◌≡◌, ℕ, ◌*◌, ◌^◌, ◌≤◌, true, false, [], Option, Some, None, refl, sym, subst, arith}
 use Rattle.cmdcodec.specs.declared.command.Command.TheVariants.{TlbiNhAll, TlbiNhVaa, TlbiEl2All, TlbiEl2Vaa, TlbiS12Vmall, TlbiS2Ipa}
-use Rattle.cmdcodec.specs.declared.reach.PageRun.{PageRun}
-use Rattle.cmdcodec.specs.declared.reach.Reach.{Reach}
 use Rattle.cmdcodec.specs.declared.reach.Reach.TheVariants as reach
 use Rattle.cmdcodec.specs.PageRuns.{run_from}
 use Rattle.caches.specs.declared.tag.Scope.TheVariants.{Global}
@@ -16,7 +13,6 @@ use Rattle.invalidations.specs.declared.entries.Level.{Level}
 use Rattle.invalidations.specs.declared.entries.Level.TheVariants.{One, Two, Three}
 use Rattle.invalidations.specs.declared.entries.Entries.{Entries}
 use Rattle.invalidations.specs.declared.entries.Entries.TheVariants.{Any, Leaves}
-use Rattle.invalidations.specs.declared.space.Space.{Space}
 use Rattle.invalidations.specs.declared.space.Space.TheVariants.{Stage1, Hypervisor, Stage2}
 use Rattle.invalidations.specs.declared.request.Target.{Target}
 use Rattle.invalidations.specs.declared.invalidation.Bytes.TheVariants.{Range}

@@ -34,3 +34,9 @@ granules_are_bits_4_to_6 = refl
 
 pub granule_of_64_kib_is_bit_6 : (smmu_of 0 0 0 0x40).granules ≡ record { kib4 = false; kib16 = false; kib64 = true }
 granule_of_64_kib_is_bit_6 = refl
+
+pub stall_model_1_is_no_stalls : (smmu_of 0x1000000 0 0 0).stalls ≡ false
+stall_model_1_is_no_stalls = refl
+
+pub stall_model_2_is_stalls_alone : (smmu_of 0x2000000 0 0 0).stalls ≡ true
+stall_model_2_is_stalls_alone = refl

@@ -96,6 +96,20 @@ fn what_is_refused(rt: HostRuntime) {
     assert!(rt; refused == Err(InvalidationFault::Unsupported));
 }
 
+/// SubstreamIDs of 8 bits, and none.
+#[test]
+fn substreams_that_an_smmu_lacks(rt: HostRuntime) {
+    let with_8_bits = Smmu::from_registers(0x603, 0x200, 0x400, 0x70);
+    let without = Smmu::from_registers(0x603, 0, 0x400, 0x70);
+    let refused = Err(InvalidationFault::Unsupported);
+    let too_wide = endpoint(&rt, 9, one(&rt, 256));
+    assert!(rt; too_wide.invalidate(&Bytes::Everything, &with_8_bits) == refused);
+    let last = endpoint(&rt, 9, one(&rt, 255));
+    assert!(rt; last.invalidate(&Bytes::Everything, &with_8_bits).is_ok());
+    let each = endpoint(&rt, 9, Substreams::Each);
+    assert!(rt; each.invalidate(&Bytes::Everything, &without) == refused);
+}
+
 /// The high word of the command for the pages from `first` to `last`.
 fn block<R: AllocGlobal + Abort>(rt: &R, first: u64, last: u64) -> u64
     requires { first ≤ last }

@@ -1,5 +1,5 @@
 //! What the tests share.
-use cmdcodec::{Asid, Granule, Raw, Vmid};
+use cmdcodec::{Asid, Granule, Raw, Vmid, encode};
 use invalidations::{
     Body, ByteRange, Bytes, Commands, Entries, Invalidation, Level, Policy, Space,
 };
@@ -20,12 +20,12 @@ pub const BLOCKS: Entries = Entries::Leaves {
 pub const POLICY: Policy = Policy {
     most_commands: 512,
     global_pages: false,
-    nested: false,
 };
 
-/// An SMMU with all that is asked of it: SMMU_IDR0 has S2P, S1P, Hyp and ATS, and SMMU_IDR5 all granules.
+/// An SMMU with all that is asked of it: SMMU_IDR0 has S2P, S1P, Hyp and ATS, SMMU_IDR1 SubstreamIDs of 20 bits, and
+/// SMMU_IDR5 all granules.
 pub fn smmu() -> Smmu {
-    Smmu::from_registers(0x603, 0, 0x400, 0x70)
+    Smmu::from_registers(0x603, 0x500, 0x400, 0x70)
 }
 
 /// The same, without ranges.
@@ -85,4 +85,12 @@ pub fn expect<R: AllocGlobal + Abort>(
     let mut body = Body::new();
     commands.fill(&mut body);
     assert!(rt; body.as_slice() == wanted);
+}
+
+/// The words of what is sent behind the CMD_SYNC of an invalidation.
+pub fn words_behind(invalidation: &Invalidation, smmu: &Smmu) -> Option<Raw> {
+    match invalidation.stage_1_behind(smmu) {
+        Some(space) => Some(encode(&space.whole())),
+        None => None,
+    }
 }

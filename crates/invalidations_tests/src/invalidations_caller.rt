@@ -13,7 +13,6 @@ fn two_unmapped_buffers(rt: HostRuntime) -> Result<(), InvalidationFault> {
     let policy = Policy {
         most_commands: 512,
         global_pages: false,
-        nested: false,
     };
     let space = Space::Stage1 {
         vmid: Vmid::new(1).expect(&rt, "16 bits"),

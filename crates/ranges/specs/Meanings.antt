@@ -110,9 +110,9 @@ abbrev pub limit_of : Option ℕ → ℕ
 limit_of None = 512
 limit_of (Some most) = most
 
--- No page is global, and no stage 1 is nested.
+-- No page is global.
 abbrev pub policy_of : Asked → Policy
-policy_of asked = record { most_commands = limit_of asked.most_commands; global_pages = false; nested = false }
+policy_of asked = record { most_commands = limit_of asked.most_commands; global_pages = false }
 
 abbrev pub plan_with : Asked → Result Invalidation RangeFault → Result Plan RangeFault
 plan_with asked (Err fault) = Err fault

@@ -142,7 +142,6 @@ fn policy(asked: &Asked<'_>) -> Policy
             None => USUAL_LIMIT,
         },
         global_pages: false,
-        nested: false,
     }
 }
 

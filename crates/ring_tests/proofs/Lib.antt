@@ -7,3 +7,4 @@ pub mod WorkedRuns
 pub mod Kept
 pub mod Crossing
 pub mod Holding
+pub mod WorkedProgress

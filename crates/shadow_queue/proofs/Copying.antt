@@ -13,6 +13,7 @@ use Rattle.hardware_queue.specs.Steps.{ForwarderValue, HasForwarded}
 use Rattle.shadow_queue.specs.declared.placement.Placement.{Placement}
 use Rattle.shadow_queue.specs.Placing.{IsPlaced, count_shown}
 use Rattle.shadow_queue.specs.Shadows.{IsUnlostFrom, IsShadow}
+use Rattle.shadow_queue.specs.Messages.{message_of}
 
 some_same : {A : Type 0} (a b : A) → Some a ≡ Some b → a ≡ b
 some_same a b is = cc
@@ -107,8 +108,9 @@ pub placed : (old new : ForwarderValue QueueValue) (answer : Forwarded) (before 
     → new.owner.queue.lost ≡ old.owner.queue.lost → told.count ≡ count_shown answer
     → (IsUnlostFrom (length new.owner.queue.shown - told.count) new.owner.queue → after ≡ drop (length new.owner.queue.shown - told.count) new.owner.queue.shown ++ drop told.count before)
     → told.slot ≡ place old.owner.queue.geometry (length old.owner.queue.shown) → told.prod ≡ (index_of new.owner.queue.geometry (length new.owner.queue.shown)).number
+    → told.message ≡ message_of (length old.owner.queue.shown + 1) old.owner.queue
     → IsPlaced before after old.owner.queue new.owner.queue told
-placed old new answer before after told has unlost lost count tells slot prod =
+placed old new answer before after told has unlost lost count tells slot prod message =
     let r : QueueValue = new.owner.queue in
     let commands : List Raw = drop (length r.shown - told.count) r.shown in
     let l = longer old new answer has in
@@ -120,4 +122,5 @@ placed old new answer before after told has unlost lost count tells slot prod =
       buffer = tells (subst (λ (k : ℕ). IsUnlostFrom (length r.shown - k) r) (sym count) (unlost_since old new answer has unlost lost)) ∙ ap (λ (k : ℕ). commands ++ drop k before) many;
       slot = slot;
       prod = prod;
+      message = message;
     }

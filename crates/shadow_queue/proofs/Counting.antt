@@ -1,5 +1,5 @@
 -- Where the count of a completion message leads.
-use Rattle.std.proofs.Common.{◌≡◌, ◌⊎◌, inl, inr, ℕ, ◌+◌, ◌-◌, ◌%◌, ◌^◌, ◌<◌, ◌≤◌, length, refl, ap, sym, subst, ◌∙◌, arith}
+use Rattle.std.proofs.Common.{◌≡◌, ◌≢◌, ◌⊎◌, inl, inr, ℕ, ◌+◌, ◌-◌, ◌%◌, ◌^◌, ◌<◌, ◌≤◌, length, refl, ap, sym, subst, ◌∙◌, arith}
 use Rattle.std.proofs.Math.Nat.{pow-le-pow_right, mod-eq_of_lt}
 use Rattle.qindex.specs.Positions.{IndexValue, size, index_of}
 use Rattle.qindex.specs.Indexes.{distance}
@@ -11,20 +11,21 @@ use Rattle.hardware_queue.specs.declared.register_words.RegisterWords.{RegisterW
 use Rattle.hardware_queue.specs.declared.state.QueueState.{QueueState}
 use Rattle.hardware_queue.specs.declared.state.QueueState.TheVariants as state
 use Rattle.hardware_queue.specs.Queues.{QueueValue, newly_consumed}
-use Rattle.hardware_queue.specs.Owners.{IsBroken}
+use Rattle.hardware_queue.specs.Owners.{IsBroken, IsStoppedState, IsOwned}
 use Rattle.hardware_queue.specs.Supplying.{CanHave, HasLooked}
-use Rattle.shadow_queue.specs.Messages.{IsToldUpTo, AreToldBy, words_at, HasHeard, SaysNothing}
+use Rattle.shadow_queue.specs.Messages.{message_of, IsToldUpTo, AreToldBy, words_at, HasHeard, SaysNothing, WentOnBehindRestart}
 use Rattle.shadow_queue.specs.Shadows.{IsShadow}
 
--- how many more are consumed than these, by a message
+-- how far a message is ahead of what an MSI would say by now
 abbrev pub further : ℕ → ℕ → ℕ
-further consumed message = (message + 2 ^ 32 - consumed % 2 ^ 32) % 2 ^ 32
+further known message = (message + 2 ^ 32 - known % 2 ^ 32) % 2 ^ 32
 
 pub are_told : IndexesTellTheQueue → (q : QueueValue) (prod cons : IndexValue) (message number : ℕ) → IsShadow q prod cons → message < 2 ^ 32
-    → q.consumed + further q.consumed message ≤ length q.shown → number ≡ (index_of q.geometry (q.consumed + further q.consumed message)).number → number < 2 ^ 20
+    → q.consumed + further (q.consumed + q.supplied.again) message ≤ length q.shown
+    → number ≡ (index_of q.geometry (q.consumed + further (q.consumed + q.supplied.again) message)).number → number < 2 ^ 20
     → AreToldBy message q (record { gerror = q.gerrorn; cons = number })
 are_told tell q prod cons message number is low shown number_is small =
-    let p : ℕ = q.consumed + further q.consumed message in
+    let p : ℕ = q.consumed + further (q.consumed + q.supplied.again) message in
     let within = is.indexes.within in
     let few : size q.geometry ≤ 2 ^ 19 = pow-le-pow_right (omega arith) is.geometry.1 in
     let between = tell q.geometry p q.consumed is.geometry (omega arith) (omega (arith, shown, within)) in
@@ -42,6 +43,21 @@ are_told tell q prod cons message number is low shown number_is small =
           let far : newly_consumed number q ≡ p - q.consumed = ap (λ (n : ℕ). distance (record { geometry = q.geometry; number = n }) (index_of q.geometry q.consumed)) rd ∙ between.distance in
           omega (arith, far);
     }
+
+-- ---- of before a restart
+
+pub messages_of_before : (position told : ℕ) (before later : QueueValue) → position ≤ length before.shown → IsOwned later → WentOnBehindRestart position before later
+    → IsToldUpTo told (message_of position before) later → told ≡ later.consumed
+messages_of_before position told before later known owned went is =
+    let counted = is.counted in
+    let ahead = is.ahead in
+    let shown = is.shown in
+    let within = owned.within in
+    let again = went.again in
+    let restarted = went.restarted in
+    let consumed = went.consumed in
+    let recent = went.recent in
+    omega (arith, known, counted, ahead, shown, within, again, restarted, consumed, recent)
 
 -- ---- by its words
 
@@ -64,7 +80,18 @@ never_stopped message count error old new words are looked =
     let by = subst (λ (w : RegisterWords). HasLooked w old new (Stopped count error)) are.words_are looked in
     by.1.1.differ refl
 
--- ---- a broken queue
+-- ---- a queue that isn't running
+
+pub is_running : (found : QueueState) → ¬ IsBroken found → ¬ IsStoppedState found → found ≡ state.Running
+is_running state.Running unbroken unstopped = refl
+is_running (state.Stopped error) unbroken unstopped = absurd (unstopped (error, refl))
+is_running (state.Broken word) unbroken unstopped = absurd (unbroken (word, refl))
+
+pub broken_is_not_running : (found : QueueState) → IsBroken found → found ≢ state.Running
+broken_is_not_running found broken running = let e : state.Running ≡ state.Broken broken.0 = sym running ∙ broken.1 in absurd (cc)
+
+pub stopped_is_not_running : (found : QueueState) → IsStoppedState found → found ≢ state.Running
+stopped_is_not_running found stopped running = let e : state.Running ≡ state.Stopped stopped.0 = sym running ∙ stopped.1 in absurd (cc)
 
 pub broken_or_not : (found : QueueState) → IsBroken found ⊎ ¬ IsBroken found
 broken_or_not state.Running = inr (λ is. let e : state.Running ≡ state.Broken is.0 = is.1 in absurd (cc))

@@ -259,9 +259,9 @@ none_newly q word there =
     ap (λ (k : ℕ). (k + m - r) % m) there ∙ ap (λ (k : ℕ). k % m) (let e : r + m - r ≡ m = omega arith in e) ∙ mod_self m
 
 -- No error is active by the words that it has then, and CONS stands where it is known to be.
-pub shadow_restarted : (q : QueueValue) (prod cons : IndexValue) (word gerrorn : ℕ) (repeated : List ℕ) (read : List Reading) → IsShadow q prod cons → cons.number < 2 ^ 20
-    → IsShadow (record q { stopped = None; gerrorn = word; repeated = repeated; read = read; supplied = record { words = record { gerror = word; cons = cons.number }; gerrorn = gerrorn; before = read } }) prod cons
-shadow_restarted q prod cons word gerrorn repeated read is small =
+pub shadow_restarted : (q : QueueValue) (prod cons : IndexValue) (word gerrorn again : ℕ) (repeated : List ℕ) (read : List Reading) → IsShadow q prod cons → cons.number < 2 ^ 20
+    → IsShadow (record q { stopped = None; gerrorn = word; repeated = repeated; read = read; supplied = record { words = record { gerror = word; cons = cons.number }; gerrorn = gerrorn; before = read; again = again } }) prod cons
+shadow_restarted q prod cons word gerrorn again repeated read is small =
     let at : cons.number ≡ (index_of q.geometry q.consumed).number = ap (λ (i : IndexValue). i.number) is.indexes.cons_is in
     let low = mod_below q.consumed (2 * size q.geometry) (let some = pow_pos q.geometry in omega (arith, some)) in
     let rd : rd_of cons.number ≡ cons.number = mod-eq_of_lt small in
@@ -290,7 +290,7 @@ shadow_restarted q prod cons word gerrorn repeated read is small =
 -- ---- it is given words
 
 pub shadow_supplied : (q : QueueValue) (prod cons : IndexValue) (words : RegisterWords) (gerrorn : ℕ) → IsShadow q prod cons → CanHave words q
-    → IsShadow (record q { supplied = record { words = words; gerrorn = gerrorn; before = q.read } }) prod cons
+    → IsShadow (record q { supplied = record { words = words; gerrorn = gerrorn; before = q.read; again = q.supplied.again } }) prod cons
 shadow_supplied q prod cons words gerrorn is can = record {
   geometry = is.geometry;
   memory = is.memory;

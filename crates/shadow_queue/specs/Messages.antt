@@ -1,15 +1,21 @@
--- What a completion message tells: the MSI of a CMD_SYNC, whose data is how many commands the hardware was shown with it.
-use Rattle.std.specs.Prelude.{◌≡◌, ℕ, ◌+◌, ◌%◌, ◌^◌, ◌≤◌, ◌⊎◌, length}
-use Rattle.qindex.specs.Positions.{index_of}
+-- What a completion message tells: the MSI of a CMD_SYNC, whose data is how many commands the hardware was told to read up to
+-- it, with those that it was told to read again by restarts. So what an MSI of before a restart says lies behind.
+use Rattle.std.specs.Prelude.{◌≡◌, ◌≢◌, ℕ, ◌+◌, ◌-◌, ◌%◌, ◌^◌, ◌<◌, ◌≤◌, ◌⊎◌, length}
+use Rattle.qindex.specs.Positions.{size, index_of}
 use Rattle.hardware_queue.specs.declared.register_words.RegisterWords.{RegisterWords}
 use Rattle.hardware_queue.specs.declared.queue_progress.Progress.TheVariants.{Consumed}
 use Rattle.hardware_queue.specs.Queues.{QueueValue, newly_consumed}
-use Rattle.hardware_queue.specs.Owners.{OwnerValue, IsBroken}
+use Rattle.hardware_queue.specs.declared.state.QueueState.TheVariants.{Running}
+use Rattle.hardware_queue.specs.Owners.{OwnerValue, IsOwned}
 use Rattle.hardware_queue.specs.Supplying.{CanHave, HasLooked}
+
+-- what the MSI says of a CMD_SYNC with which so many commands were shown
+abbrev pub message_of : ℕ → QueueValue → ℕ
+message_of position q = (position + q.supplied.again) % 2 ^ 32
 
 -- By these 32 bits all up to this position is consumed. None of it is behind what is known to be consumed, or wasn't shown.
 pub record IsToldUpTo (position message : ℕ) (q : QueueValue) : Type 0 where
-  pub counted : position % 2 ^ 32 ≡ message
+  pub counted : message_of position q ≡ message
   pub ahead : q.consumed ≤ position
   pub shown : position ≤ length q.shown
 
@@ -34,6 +40,25 @@ pub record HasHeard (message : ℕ) (old new : QueueValue) (count : ℕ) : Type 
 abbrev pub SaysNothing : ℕ → QueueValue → Type 0
 SaysNothing message q = (position : ℕ) → IsToldUpTo position message q → ¬ CanHave (words_at position q) q
 
--- It says nothing, or the queue was found broken before.
+-- It says nothing, or the last look found a stop, or a broken queue.
 abbrev pub IsUnheard : ℕ → OwnerValue QueueValue → Type 0
-IsUnheard message owner = IsBroken owner.state ⊎ SaysNothing message owner.queue
+IsUnheard message owner = (owner.state ≢ Running) ⊎ SaysNothing message owner.queue
+
+-- ---- messages of before a restart
+
+-- Since then the queue was restarted, once or more: at the first restart it wasn't known to have consumed more, and it went
+-- on from there. So many commands it was told to read again, and this position is no more than 2^32 commands ago.
+pub record WentOnBehindRestart (position : ℕ) (before later : QueueValue) : Type 0 where
+  pub more : ℕ
+  pub again : later.supplied.again ≡ (before.supplied.again + more) % 2 ^ 32
+  pub restarted : length before.shown - before.consumed ≤ more
+  pub consumed : before.consumed ≤ later.consumed
+  pub recent : later.consumed + more + size later.geometry < position + 2 ^ 32
+
+-- The MSI of a CMD_SYNC that the hardware was shown before a restart tells nothing behind it, whenever it comes: no more than
+-- what is known to be consumed.
+abbrev pub MessagesOfBeforeTellNothing : Type 0
+MessagesOfBeforeTellNothing =
+    (position told : ℕ) (before later : QueueValue) → position ≤ length before.shown
+    → IsOwned later → WentOnBehindRestart position before later
+    → IsToldUpTo told (message_of position before) later → told ≡ later.consumed

@@ -1,5 +1,5 @@
 -- The copy of a queue whose memory and registers are somebody else's.
-use Rattle.std.specs.Prelude.{◌≡◌, ℕ, ◌<◌, ◌≤◌, length, Contains, Option, Some, None}
+use Rattle.std.specs.Prelude.{◌≡◌, ℕ, ◌<◌, ◌≤◌, [], length, replicate, Contains, Option, Some, None}
 use Rattle.qindex.specs.Positions.{IndexValue, size}
 use Rattle.qindex.specs.Indexes.{IsGeometry, IsQueue}
 use Rattle.hardware_queue.specs.Queues.{QueueValue, Stop, IsSyncAt}
@@ -26,6 +26,15 @@ IsUnlostFrom from q = (position : ℕ) → Contains q.lost position → position
 pub record IsStopWithin (q : QueueValue) (stop : Stop) : Type 0 where
   pub unconsumed : q.consumed ≤ stop.position
   pub shown : stop.position < length q.shown
+
+-- Nothing stands in its memory, and it was told nothing: each register is 0.
+pub record IsBlank (q : QueueValue) : Type 0 where
+  pub memory : q.memory ≡ replicate (size q.geometry) (record { lo = 0; hi = 0 })
+  pub gerrorn : q.gerrorn ≡ 0
+  pub read : q.read ≡ []
+  pub words : q.supplied.words ≡ record { gerror = 0; cons = 0 }
+  pub supplied_gerrorn : q.supplied.gerrorn ≡ 0
+  pub again : q.supplied.again ≡ 0
 
 -- What it keeps: what the hardware may read stands in the copy as it was shown, and whatever is asked of a register is
 -- answered with the words that it was given, which a working queue can have.

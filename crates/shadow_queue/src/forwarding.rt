@@ -45,11 +45,18 @@ pub fn forward(
 {
     forwarder.queue().lost_were_shown();
     let slot = forwarder.queue().free_slot();
+    let message = forwarder.queue().next_message();
     let answer = forwarder.forward(ring);
     let count = shown_by(answer);
     forwarder.queue().copy_newest(count, buffer);
     let prod = forwarder.queue().prod();
-    (answer, Placement { slot, count, prod })
+    let placement = Placement {
+        slot,
+        count,
+        prod,
+        message,
+    };
+    (answer, placement)
 }
 
 /// Returns how many commands the hardware was shown by this answer.

@@ -3,6 +3,7 @@
 #![tactic(auto)]
 
 mod forwarding;
+mod laws;
 mod messages;
 mod newest;
 mod placement;
@@ -10,6 +11,7 @@ mod seen_stop;
 mod shadow_queue;
 
 pub use forwarding::forward;
+pub use laws::messages_of_before_tell_nothing;
 pub use messages::poll_msi;
 pub use placement::Placement;
 pub use shadow_queue::ShadowQueue;

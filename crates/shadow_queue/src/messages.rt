@@ -14,15 +14,16 @@ use hardware_queue::{Forwarder, Progress, SuppliedQueue};
 use ring::Ring;
 
 /// Settles what the hardware has consumed, as `Forwarder::poll_words` does, by `message`, the data of an MSI that
-/// completed a CMD_SYNC: how many commands the hardware had been shown with that CMD_SYNC, modulo 2^32. Returns how many
-/// more were consumed.
+/// completed a CMD_SYNC: what `Placement` says, or `ShadowQueue::first_message` behind a restart. Returns how many more
+/// were consumed.
 ///
-/// Returns `None`, and changes nothing, if it tells nothing: it is behind what is known to be consumed or ahead of what
-/// was shown, the hardware was seen stopped elsewhere, or the queue is broken.
+/// Returns `None`, and changes nothing, if it tells nothing: it is behind what is known to be consumed, as an MSI of
+/// before a restart is, or ahead of what was shown; or the last look found a stop, or a broken queue.
 pub fn poll_msi(forwarder: &mut Forwarder<ShadowQueue>, ring: &Ring, message: u32) -> Option<u32>
     requires { forwarder.old.consumer.consumer.ring ≡ ring.now }
     ensures heard { IfSome result
         (HasHeard message forwarder.old.owner.queue forwarder.new.owner.queue) }
+    ensures was_running { IfSome result (λ count. forwarder.old.owner.state ≡ Running) }
     ensures running { IfSome result (λ count. forwarder.new.owner.state ≡ Running) }
     ensures settled { IfSome result (λ count. HasSettledAll forwarder.new.owner.queue
         forwarder.old.consumer forwarder.new.consumer) }
@@ -39,6 +40,9 @@ pub fn poll_msi(forwarder: &mut Forwarder<ShadowQueue>, ring: &Ring, message: u3
         forwarder.old.consumer.consumer.history forwarder.new.consumer.consumer.history }
     ensures ring { forwarder.new.consumer.consumer.ring ≡ forwarder.old.consumer.consumer.ring }
 {
+    if forwarder.stopped().is_some() {
+        return None;
+    }
     let words = forwarder.queue().words_told(message)?;
     if !forwarder.queue().can_have(words) {
         return None;

@@ -9,4 +9,6 @@ pub struct Placement {
     pub count: u32,
     /// The value for SMMU_CMDQ_PROD.
     pub prod: u32,
+    /// The data for an MSI of the first, if that is a CMD_SYNC; for one behind it as many more, modulo 2^32.
+    pub message: u32,
 }

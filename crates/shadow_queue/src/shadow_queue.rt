@@ -1,10 +1,10 @@
 //! The copy of a queue.
 ghost use Rattle.std.specs.Prelude.{◌≡◌, ◌+◌, ◌-◌, ◌<◌, ◌≤◌, ◌↔◌, ◌≢◌, ◌++◌, ℕ, IsTrue, IfOk, IfSome, IfNone, Some, drop, length};
 ghost use Rattle.qindex.specs.Positions.{place, index_of};
-ghost use Rattle.hardware_queue.specs.Queues.{IsAtStop, IsErrorActive, Stop, newly_consumed, repeated_after};
+ghost use Rattle.hardware_queue.specs.Queues.{IsAtStop, IsErrorActive, Stop, newly_consumed, repeated_after, MayRestart, HasRestarted};
 ghost use Rattle.hardware_queue.specs.Owners.{IsNew};
-ghost use Rattle.shadow_queue.specs.Shadows.{IsStopWithin, IsUnlostFrom, stop_of};
-ghost use Rattle.shadow_queue.specs.Messages.{IsToldUpTo, AreToldBy};
+ghost use Rattle.shadow_queue.specs.Shadows.{IsBlank, IsStopWithin, IsUnlostFrom, stop_of};
+ghost use Rattle.shadow_queue.specs.Messages.{message_of, IsToldUpTo, AreToldBy};
 
 use crate::newest::copy_from;
 use crate::seen_stop::SeenStop;
@@ -37,6 +37,8 @@ pub struct ShadowQueue {
     words: RegisterWords,
     gerrorn_word: u32,
     before: Snapshot<Reads>,
+    /// How many commands the hardware was told to read again, by restarts, modulo 2^32.
+    again: u32,
     shown: Tape,
     lost: Positions,
     repeated: Positions,
@@ -59,7 +61,7 @@ impl Model for ShadowQueue {
       lost = s.lost;
       repeated = s.repeated;
       read = s.read;
-      supplied = record { words = s.words; gerrorn = s.gerrorn_word; before = s.before.value };
+      supplied = record { words = s.words; gerrorn = s.gerrorn_word; before = s.before.value; again = s.again };
     } };
 
     ghost invariant = { λ s. IsShadow (record {
@@ -72,7 +74,7 @@ impl Model for ShadowQueue {
       lost = s.lost;
       repeated = s.repeated;
       read = s.read;
-      supplied = record { words = s.words; gerrorn = s.gerrorn_word; before = s.before.value };
+      supplied = record { words = s.words; gerrorn = s.gerrorn_word; before = s.before.value; again = s.again };
     }) s.prod s.cons };
 }
 
@@ -95,7 +97,8 @@ impl ShadowQueue {
     /// Creates the copy of a queue of these many slots that has not begun: SMMU_CMDQ_PROD and SMMU_CMDQ_CONS are 0, and
     /// CMDQ_ERR of SMMU_GERROR and SMMU_GERRORN too.
     pub fn new(alloc: Global, geometry: Geometry) -> Result<ShadowQueue, AllocError>
-        ensures { IfOk result (λ s. IsNew s geometry) }
+        ensures new { IfOk result (λ s. IsNew s geometry) }
+        ensures blank { IfOk result IsBlank }
     {
         let nothing = Raw { lo: 0, hi: 0 };
         let memory = vec![in alloc; nothing; geometry.size() as usize]?;
@@ -111,6 +114,7 @@ impl ShadowQueue {
             words: RegisterWords { gerror: 0, cons: 0 },
             gerrorn_word: 0,
             before: Snapshot::of(&read),
+            again: 0,
             shown: Tape::new(),
             lost: Positions::new(),
             repeated: Positions::new(),
@@ -144,16 +148,38 @@ impl ShadowQueue {
         self.prod.get()
     }
 
-    /// Returns what the registers have, with no error active, once the hardware has consumed what an MSI tells: as many
-    /// commands as `message` says, modulo 2^32. `None` if that is behind what is known to be consumed, or ahead of what
-    /// was shown.
+    /// Returns the data for the MSI of a CMD_SYNC, if that is the command which is shown next.
+    pub fn next_message(&self) -> u32
+        ensures { result ≡ message_of (length self.now.shown + 1) self.now }
+    {
+        self.message_with(self.in_flight()).wrapping_add(1)
+    }
+
+    /// Returns the data for the MSI of the first command that isn't known to be consumed, if that is a CMD_SYNC.
+    pub fn first_message(&self) -> u32
+        ensures { result ≡ message_of (self.now.consumed + 1) self.now }
+    {
+        self.message_with(1)
+    }
+
+    /// Returns what an MSI says once so many more commands are consumed.
+    fn message_with(&self, count: u32) -> u32
+        ensures { result ≡ message_of (self.now.consumed + count) self.now }
+    {
+        let consumed = (self.consumed % STRIDE) as u32;
+        consumed.wrapping_add(count).wrapping_add(self.again)
+    }
+
+    /// Returns what the registers have, with no error active, once the hardware has consumed what an MSI tells: so many
+    /// commands, with those that it was told to read again by restarts, as `message` says, modulo 2^32. `None` if that is
+    /// behind what is known to be consumed, as of an MSI of before a restart, or ahead of what was shown.
     pub fn words_told(&self, message: u32) -> Option<RegisterWords>
         ensures told { IfSome result (AreToldBy message self.now) }
         ensures untold { IfNone result
             ((position : ℕ) → ¬ IsToldUpTo position message self.now) }
     {
         indexes_tell_the_queue();
-        let known = self.consumed % STRIDE;
+        let known = u64::from(self.message_with(0));
         let count = (u64::from(message) + STRIDE - known) % STRIDE;
         if count > u64::from(self.in_flight()) {
             return None;
@@ -290,7 +316,11 @@ impl CommandQueue for ShadowQueue {
         self.gerrorn = word;
     }
 
-    fn restart(&mut self, prod: u32, cons: u32) -> u32 {
+    fn restart(&mut self, prod: u32, cons: u32) -> u32
+        requires { MayRestart prod cons self.old }
+        ensures restarted { HasRestarted self.old self.new result }
+        ensures supplied { result ≡ self.old.supplied.gerrorn }
+    {
         let gerrorn = self.gerrorn_word;
         self.restart_with(prod, cons, gerrorn);
         gerrorn
@@ -322,6 +352,7 @@ impl SuppliedQueue for ShadowQueue {
     }
 
     fn restart_with(&mut self, _prod: u32, _cons: u32, gerrorn: u32) {
+        self.again = self.again.wrapping_add(self.in_flight());
         self.repeated.add(self.consumed);
         self.stopped = None;
         self.gerrorn = gerrorn;

@@ -30,6 +30,8 @@ pub struct Smmu {
     pub pri: bool,
     /// SMMU_IDR0.Hyp: stage 1 contexts of a hypervisor (EL2).
     pub hypervisor: bool,
+    /// SMMU_IDR0.STALL_MODEL isn't 1: a faulting transaction may be stalled until software says what becomes of it.
+    pub stalls: bool,
     /// SMMU_IDR0.ASID16: ASIDs of 16 bits, and not 8.
     pub wide_asids: bool,
     /// SMMU_IDR0.VMID16: VMIDs of 16 bits, and not 8.
@@ -55,6 +57,7 @@ impl Smmu {
             ats: is_set(idr0, 10),
             pri: is_set(idr0, 16),
             hypervisor: is_set(idr0, 9),
+            stalls: field(idr0, 25, 24) != 1,
             wide_asids: is_set(idr0, 12),
             wide_vmids: is_set(idr0, 18),
             substream_bits: field(idr1, 10, 6),

@@ -1,7 +1,7 @@
 -- Commands that aren't legal for an SMMU without what they are for.
 use Rattle.std.proofs.Common.{◌≡◌, ℕ, true, false, refl}
 use Rattle.cmdcodec.specs.declared.raw.Raw.{Raw}
-use Rattle.cmdcodec.specs.declared.opcode.Opcode.TheVariants.{TlbiNhAll, TlbiNhAsid, TlbiNhVa, TlbiNhVaa, TlbiEl2All, TlbiEl2Asid, TlbiEl2Va, TlbiEl2Vaa, TlbiS12Vmall, TlbiS2Ipa, AtcInv, PriResp}
+use Rattle.cmdcodec.specs.declared.opcode.Opcode.TheVariants.{PrefetchConfig, PrefetchAddr, CfgiCd, CfgiCdAll, TlbiNhAll, TlbiNhAsid, TlbiNhVa, TlbiNhVaa, TlbiEl2All, TlbiEl2Asid, TlbiEl2Va, TlbiEl2Vaa, TlbiS12Vmall, TlbiS2Ipa, AtcInv, PriResp, Resume, StallTerm}
 use Rattle.cmdcodec.specs.Opcodes.{opcode_named}
 use Rattle.smmu_features.specs.declared.smmu.Smmu.{Smmu}
 use Rattle.smmu_features.specs.Commands.{IsLegalFor}
@@ -14,6 +14,7 @@ bare = record {
   ats = false;
   pri = false;
   hypervisor = false;
+  stalls = false;
   wide_asids = false;
   wide_vmids = false;
   substream_bits = 0;
@@ -80,3 +81,72 @@ no_pri_resp_without_pri legal = let had : false ≡ true = legal.had PriResp ref
 pub no_unknown_opcode : Lacks 0x7f
 unfolding opcode_named
 no_unknown_opcode legal = let words = legal.words in cc
+
+pub no_cfgi_cd_without_stage_1 : Lacks 0x05
+unfolding opcode_named
+no_cfgi_cd_without_stage_1 legal = let had : false ≡ true = legal.had CfgiCd refl in cc
+
+pub no_cfgi_cd_all_without_stage_1 : Lacks 0x06
+unfolding opcode_named
+no_cfgi_cd_all_without_stage_1 legal = let had : false ≡ true = legal.had CfgiCdAll refl in cc
+
+pub no_resume_without_stalls : Lacks 0x44
+unfolding opcode_named
+no_resume_without_stalls legal = let had : false ≡ true = legal.had Resume refl in cc
+
+pub no_stall_term_without_stalls : Lacks 0x45
+unfolding opcode_named
+no_stall_term_without_stalls legal = let had : false ≡ true = legal.had StallTerm refl in cc
+
+-- ---- Secure streams: bit 10.
+
+pub no_resume_of_a_secure_stream : (smmu : Smmu) → IsLegalFor smmu (word 0x444) → ⊥
+unfolding opcode_named
+no_resume_of_a_secure_stream smmu legal = let wrong : true ≡ false = legal.non_secure in cc
+
+pub no_stall_term_of_a_secure_stream : (smmu : Smmu) → IsLegalFor smmu (word 0x445) → ⊥
+unfolding opcode_named
+no_stall_term_of_a_secure_stream smmu legal = let wrong : true ≡ false = legal.non_secure in cc
+
+-- ---- Substreams: SSV is bit 11, SubstreamID 31:12, Global 9.
+
+-- SubstreamIDs of so many bits
+abbrev with_substreams : ℕ → Smmu
+with_substreams bits = record {
+  range_invalidation = false;
+  stage_1 = true;
+  stage_2 = false;
+  ats = true;
+  pri = false;
+  hypervisor = false;
+  stalls = false;
+  wide_asids = false;
+  wide_vmids = false;
+  substream_bits = bits;
+  stream_bits = 0;
+  granules = record { kib4 = true; kib16 = false; kib64 = false };
+}
+
+pub no_substream_0_without_substreams : IsLegalFor (with_substreams 0) (word 0x840) → ⊥
+unfolding opcode_named
+no_substream_0_without_substreams legal = let had : false ≡ true = legal.accesses AtcInv refl in cc
+
+pub no_each_substream_without_substreams : IsLegalFor (with_substreams 0) (word 0xa40) → ⊥
+unfolding opcode_named
+no_each_substream_without_substreams legal = let had : false ≡ true = legal.accesses AtcInv refl in cc
+
+pub no_substream_256_of_8_bits : IsLegalFor (with_substreams 8) (word 0x100840) → ⊥
+unfolding opcode_named
+no_substream_256_of_8_bits legal = let had : false ≡ true = legal.accesses AtcInv refl in cc
+
+pub no_prefetch_of_substream_256 : IsLegalFor (with_substreams 8) (word 0x100801) → ⊥
+unfolding opcode_named
+no_prefetch_of_substream_256 legal = let had : false ≡ true = legal.accesses PrefetchConfig refl in cc
+
+pub no_prefetch_by_address_of_substream_256 : IsLegalFor (with_substreams 8) (word 0x100802) → ⊥
+unfolding opcode_named
+no_prefetch_by_address_of_substream_256 legal = let had : false ≡ true = legal.accesses PrefetchAddr refl in cc
+
+pub no_prefetch_of_each_substream : IsLegalFor (with_substreams 8) (word 0x100a01) → ⊥
+unfolding opcode_named
+no_prefetch_of_each_substream legal = let had : false ≡ true = legal.accesses PrefetchConfig refl in cc

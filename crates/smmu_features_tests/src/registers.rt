@@ -11,6 +11,7 @@ fn an_emulated_smmu(rt: HostRuntime) {
         ats: false,
         pri: false,
         hypervisor: false,
+        stalls: false,
         wide_asids: true,
         wide_vmids: true,
         substream_bits: 8,
@@ -29,6 +30,10 @@ fn a_field_alone(rt: HostRuntime) {
     let none = Smmu::from_registers(0, 0, 0, 0);
     let pri = Smmu::from_registers(0x1_0000, 0, 0, 0);
     assert_eq!(rt; pri, Smmu { pri: true, ..none });
+    // STALL_MODEL: 0 is stalls and faults that end a transaction, 1 these alone, 2 stalls alone.
+    assert!(rt; none.stalls);
+    assert!(rt; !Smmu::from_registers(0x100_0000, 0, 0, 0).stalls);
+    assert!(rt; Smmu::from_registers(0x200_0000, 0, 0, 0).stalls);
     let hypervisor = Smmu::from_registers(0x200, 0, 0, 0);
     assert_eq!(rt;
         hypervisor,

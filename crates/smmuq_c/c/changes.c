@@ -17,7 +17,8 @@ static void want(const char *call, int line, uint64_t got, uint64_t wanted) {
 #define WANT(call, answer) want(#call, __LINE__, (call), (answer))
 
 /* SMMU_IDR0: S2P bit 0, S1P bit 1, Hyp bit 9, ATS bit 10. SMMU_IDR3: RIL bit 10. SMMU_IDR5: GRAN4K, 16K and 64K bits 4 to 6. */
-enum { S2P = 1 << 0, S1P = 1 << 1, HYP = 1 << 9, ATS = 1 << 10, ALL = S2P | S1P | HYP | ATS, RIL = 1 << 10, GRANULES = 7 << 4 };
+enum { S2P = 1 << 0, S1P = 1 << 1, HYP = 1 << 9, ATS = 1 << 10, ALL = S2P | S1P | HYP | ATS, RIL = 1 << 10, GRANULES = 7 << 4,
+       SUBSTREAMS = 20 << 6 };
 enum { ROOM = 8, UNTOLD = 0x5a };
 
 /* ---- the commands for a change */
@@ -29,17 +30,17 @@ static void want_commands(int line, uint32_t idr3, smmuq_change change, const sm
     /* In each buffer that is too short nothing changes, and the count is told. */
     for (short_of = 0; short_of < count; short_of++) {
         memcpy(buffer, before, sizeof buffer);
-        want("too short", line, smmuq_invalidation(ALL, 0, idr3, GRANULES, &change, buffer, short_of, &told), SMMUQ_SHORT_BUFFER);
+        want("too short", line, smmuq_invalidation(ALL, SUBSTREAMS, idr3, GRANULES, &change, buffer, short_of, &told), SMMUQ_SHORT_BUFFER);
         want("count", line, told, count);
         want("the buffer", line, memcmp(buffer, before, sizeof buffer), 0);
         told = 99;
     }
-    want("smmuq_invalidation", line, smmuq_invalidation(ALL, 0, idr3, GRANULES, &change, buffer, ROOM, &told), SMMUQ_OK);
+    want("smmuq_invalidation", line, smmuq_invalidation(ALL, SUBSTREAMS, idr3, GRANULES, &change, buffer, ROOM, &told), SMMUQ_OK);
     want("count", line, told, count);
     for (size_t n = 0; n < count; n++) {
         want("lo", line, buffer[n].lo, wanted[n].lo);
         want("hi", line, buffer[n].hi, wanted[n].hi);
-        want("smmuq_check_for", line, smmuq_check_for(ALL, 0, idr3, GRANULES, buffer[n].lo, buffer[n].hi), SMMUQ_OK);
+        want("smmuq_check_for", line, smmuq_check_for(ALL, SUBSTREAMS, idr3, GRANULES, buffer[n].lo, buffer[n].hi), SMMUQ_OK);
     }
     want("what is behind", line, memcmp(buffer + count, before, (ROOM - count) * sizeof *buffer), 0);
 }
@@ -87,11 +88,9 @@ static void invalidate_stage_1(void) {
 
 static void invalidate_others(void) {
     smmuq_change change = of_bytes(PAGES, 0x3000, 0x1000);
-    /* Stage 2, and all of stage 1 behind it. */
+    /* Stage 2. */
     change.kind = SMMUQ_REGION_S2;
     WANT_COMMANDS(RIL, change, {0x000000010000002a, 0x3701});
-    change.nested = 1;
-    WANT_COMMANDS(RIL, change, {0x000000010000002a, 0x3701}, {0x0000000100000010, 0});
     change.everything = 1;
     WANT_COMMANDS(RIL, change, {0x0000000100000028, 0});
     /* The hypervisor's. */
@@ -107,7 +106,7 @@ static void invalidate_others(void) {
 
 static void invalidate_an_endpoint(void) {
     /* Fields that it doesn't have are ignored. */
-    smmuq_change change = {.kind = SMMUQ_REGION_ENDPOINT, .sid = 5, .ssid = 3, .vmid = UINT32_MAX, .tg = 9, .nested = 7,
+    smmuq_change change = {.kind = SMMUQ_REGION_ENDPOINT, .sid = 5, .ssid = 3, .vmid = UINT32_MAX, .tg = 9,
                            .first = 0x4fff, .length = 0x2002};
     smmuq_command none;
     size_t count = 99;
@@ -120,8 +119,52 @@ static void invalidate_an_endpoint(void) {
     WANT_COMMANDS(0, change, {0x500000a40, 52});
     change = of_bytes(change, 0x4000, 0);
     change.everything = 0;
-    WANT(smmuq_invalidation(ATS, 0, 0, 0, &change, &none, 0, &count), SMMUQ_OK); /* no byte, no command */
+    WANT(smmuq_invalidation(ATS, SUBSTREAMS, 0, 0, &change, &none, 0, &count), SMMUQ_OK); /* no byte, no command */
     WANT(count, 0);
+}
+
+/* ---- what is to be sent only once those before are complete */
+
+static void want_only(int line, smmuq_status status, const smmuq_command *told, const size_t *count, uint64_t lo, uint64_t hi) {
+    want("status", line, status, SMMUQ_OK);
+    want("count", line, *count, 1);
+    want("lo", line, told->lo, lo);
+    want("hi", line, told->hi, hi);
+}
+
+static void follow_stage_2(void) {
+    smmuq_command told;
+    size_t count = 99;
+    want_only(__LINE__, smmuq_nested_invalidation(ALL, 0, 0, 0, 1, &told, 1, &count), &told, &count, 0x0000000100000010, 0);
+    WANT(smmuq_nested_invalidation(ALL & ~S1P, 0, 0, 0, 1, &told, 0, &count), SMMUQ_OK);
+    WANT(count, 0);
+    WANT(smmuq_nested_invalidation(ALL, 0, 0, 0, 1, &told, 0, &count), SMMUQ_SHORT_BUFFER);
+    WANT(count, 1);
+    count = 99;
+    WANT(smmuq_nested_invalidation(ALL, 0, 0, 0, 0x10000, &told, 1, &count), SMMUQ_BAD_FIELD);
+    WANT(count, 99);
+}
+
+static void detach_a_stream(void) {
+    smmuq_command told[2];
+    size_t count = 99;
+    WANT(smmuq_detach(ALL, 0, 0, 0, 5, told, 1, &count), SMMUQ_SHORT_BUFFER);
+    WANT(count, 2);
+    WANT(smmuq_detach(ALL, 0, 0, 0, 5, told, 2, &count), SMMUQ_OK);
+    WANT(told[0].lo, 0x0000000500000003);
+    WANT(told[0].hi, 1);
+    WANT(told[1].lo, 0x0000000500000006);
+    WANT(told[1].hi, 0);
+    /* Without stage 1 there are no context descriptors, and CFGI_CD_ALL would be illegal. */
+    want_only(__LINE__, smmuq_detach(ALL & ~S1P, 0, 0, 0, 5, told, 2, &count), told, &count, 0x0000000500000003, 1);
+    want_only(__LINE__, smmuq_detach_endpoint(ALL, 0, 0, 0, 5, 1, told, 1, &count), told, &count, 0x0000000500000040, 52);
+    WANT(smmuq_detach_endpoint(ALL, 0, 0, 0, 5, 0, told, 0, &count), SMMUQ_OK);
+    WANT(count, 0);
+    WANT(smmuq_detach_endpoint(ALL & ~ATS, 0, 0, 0, 5, 1, told, 0, &count), SMMUQ_OK);
+    WANT(count, 0);
+    count = 99;
+    WANT(smmuq_detach_endpoint(ALL, 0, 0, 0, 5, 2, told, 2, &count), SMMUQ_BAD_FIELD);
+    WANT(count, 99);
 }
 
 /* ---- what is refused */
@@ -150,6 +193,9 @@ static void refuse_what_the_smmu_lacks(void) {
     change.kind = SMMUQ_REGION_ENDPOINT;
     change.substreams = SMMUQ_SUBSTREAMS_EVERY;
     WANT_REFUSED(ALL & ~ATS, GRANULES, change, SMMUQ_UNSUPPORTED);
+    change.substreams = SMMUQ_SUBSTREAMS_WITH; /* and SMMU_IDR1.SSIDSIZE is 0 */
+    WANT_REFUSED(ALL, GRANULES, change, SMMUQ_UNSUPPORTED);
+    change.substreams = SMMUQ_SUBSTREAMS_EVERY;
     WANT_REFUSED(ALL, GRANULES, of_bytes(change, UINT64_MAX, 2), SMMUQ_PAST_END);
 }
 
@@ -162,7 +208,7 @@ static void refuse_bad_fields(void) {
         {.kind = SMMUQ_REGION_EL2, .tg = 1, .asids = SMMUQ_ASIDS_ONE_AND_GLOBAL, .asid = 0x10000},
         {.kind = SMMUQ_REGION_S1, .tg = 1, .leaf = 2}, {.kind = SMMUQ_REGION_S1, .tg = 1, .ttl = 1}, /* a level, but no leaves */
         {.kind = SMMUQ_REGION_S1, .tg = 1, .leaf = 1, .ttl = 4},
-        {.kind = SMMUQ_REGION_S1, .tg = 1, .everything = 2}, {.kind = SMMUQ_REGION_S2, .tg = 1, .nested = 2},
+        {.kind = SMMUQ_REGION_S1, .tg = 1, .everything = 2},
         {.kind = SMMUQ_REGION_ENDPOINT, .substreams = 3}, {.kind = SMMUQ_REGION_ENDPOINT, .everything = 2},
         {.kind = SMMUQ_REGION_ENDPOINT, .substreams = SMMUQ_SUBSTREAMS_ONE, .ssid = 0x100000},
     };
@@ -244,6 +290,8 @@ int main(void) {
     invalidate_stage_1();
     invalidate_others();
     invalidate_an_endpoint();
+    follow_stage_2();
+    detach_a_stream();
     refuse_what_the_smmu_lacks();
     refuse_bad_fields();
     overlap();

@@ -251,7 +251,9 @@ static uint32_t codec(struct handles *handles) {
     status |= smmuq_decode(TLBI_NSNH_ALL.lo, TLBI_NSNH_ALL.hi, &fields);
     status |= smmuq_encode(&fields, &command);
     status |= smmuq_range(1, 2, 0x1000, 33, room, 63, &count);
-    status |= smmuq_detach(5, room, 63, &count);
+    status |= smmuq_nested_invalidation(2, 0, 0, 0x10, 1, room, 63, &count);
+    status |= smmuq_detach(2, 0, 0, 0x10, 5, room, 63, &count);
+    status |= smmuq_detach_endpoint(2, 0, 0, 0x10, 5, 1, room, 63, &count);
     status |= smmuq_invalidation(2, 0, 0, 0x10, &change, room, 63, &count);
     return status;
 }

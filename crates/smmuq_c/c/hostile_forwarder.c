@@ -288,8 +288,104 @@ static void messages(void) {
     WANT(poll(&driver, 0, 0xffffffff), SMMUQ_QUEUE_BROKEN);
     WANT(poll_msi(&driver, 16), 0);
     WANT(restart(&driver, 0), SMMUQ_OK);
-    WANT(poll_msi(&driver, 16), 2);
+    WANT(driver.restart.message, 17); /* two commands are read again */
+    WANT(poll_msi(&driver, 16), 0);
+    WANT(poll_msi(&driver, 18), 2);
     WANT(done(&driver), 8);
+    drop(&driver);
+}
+
+/* An MSI of before a restart, which nobody looked at until then: two of four commands were consumed, and are read again. No
+ * slot of these is handed out, and nobody is told by it, also where it comes late. */
+static void message_of_before(void) {
+    struct driver driver = new_driver();
+    uint32_t batch;
+    for (batch = 0; batch < 4; batch++)
+        send(&driver, &TLBI);
+    WANT(forward(&driver, RUN), SMMUQ_OK);
+    WANT(driver.placement.count, 4);
+    WANT(driver.placement.message, 1);
+    WANT(restart(&driver, 0), SMMUQ_OK);
+    WANT(driver.restart.prod, 4);
+    WANT(driver.restart.cons, 0);
+    WANT(driver.restart.message, 5);
+    WANT(poll_msi(&driver, 2), 0);
+    WANT(poll_msi(&driver, 4), 0);
+    WANT(forward(&driver, RUN), SMMUQ_QUEUE_FULL);
+    WANT(done(&driver), 0);
+    WANT(poll_msi(&driver, 6), 2);
+    WANT(poll_msi(&driver, 4), 0);
+    WANT(done(&driver), 1);
+    WANT(forward(&driver, RUN), SMMUQ_OK);
+    WANT(driver.placement.message, 9);
+    WANT(restart(&driver, 0), SMMUQ_OK);
+    WANT(driver.restart.message, 11); /* four are in flight */
+    WANT(poll_msi(&driver, 8), 0);
+    WANT(poll_msi(&driver, 10), 0);
+    WANT(poll_msi(&driver, 14), 4);
+    WANT(done(&driver), 3);
+    drop(&driver);
+}
+
+/* Whatever ERR says, no MSI is heard at a stop that isn't acknowledged: not even of what lies ahead of it. */
+static void message_at_a_stop(void) {
+    uint32_t err;
+    for (err = 0; err < 5; err++) {
+        struct driver driver = new_driver();
+        send(&driver, &TLBI);
+        send(&driver, &TLBI);
+        WANT(forward(&driver, RUN), SMMUQ_OK);
+        WANT(poll(&driver, 1, err << 24 | 1), SMMUQ_QUEUE_STOPPED);
+        WANT(poll_msi(&driver, 2), 0);
+        WANT(poll_msi(&driver, 4), 0);
+        WANT(done(&driver), 0);
+        WANT(acknowledge(&driver, 0, SMMUQ_RETRY), SMMUQ_OK);
+        WANT(poll_msi(&driver, 4), 3);
+        WANT(done(&driver), 2);
+        drop(&driver);
+    }
+}
+
+/* A CONS that was read before others were heard of: refused where it lies behind, but believed a lap behind, with a full
+ * queue. So docs/HARDWARE.md asks for one that was read behind the last look. */
+static void stale_cons(void) {
+    struct driver driver = new_driver();
+    uint32_t batch;
+    for (batch = 0; batch < 4; batch++)
+        send(&driver, &TLBI);
+    WANT(forward(&driver, RUN), SMMUQ_OK);
+    WANT(poll_msi(&driver, 4), 4);
+    WANT(forward(&driver, RUN), SMMUQ_OK);
+    WANT(poll(&driver, 0, 0), SMMUQ_OK);
+    WANT(driver.consumed, 4);
+    drop(&driver);
+    driver = new_driver();
+    for (batch = 0; batch < 4; batch++)
+        send(&driver, &TLBI);
+    WANT(forward(&driver, RUN), SMMUQ_OK);
+    WANT(poll_msi(&driver, 4), 4);
+    WANT(forward(&driver, RUN), SMMUQ_OK);
+    WANT(poll(&driver, 0, 1), SMMUQ_QUEUE_BROKEN);
+    WANT(done(&driver), 2);
+    drop(&driver);
+}
+
+/* A queue that another kernel left with CMDQ_ERR 1 in both registers: restarted before it is enabled. */
+static void acknowledged_before(void) {
+    struct driver driver = new_driver();
+    WANT(restart(&driver, 0x11), SMMUQ_OK);
+    WANT(driver.restart.prod, 0);
+    WANT(driver.restart.cons, 0);
+    WANT(driver.restart.message, 1);
+    send(&driver, &TLBI);
+    WANT(forward(&driver, RUN), SMMUQ_OK);
+    WANT(driver.placement.message, 1);
+    WANT(poll(&driver, 0x11, 1), SMMUQ_OK); /* no error is active */
+    WANT(poll(&driver, 0x10, 1u << 24 | 1), SMMUQ_QUEUE_STOPPED);
+    WANT(acknowledge(&driver, 0x11, SMMUQ_RETRY), SMMUQ_OK);
+    WANT(driver.acknowledgement.gerrorn, 0x10);
+    WANT(poll(&driver, 0x10, 2), SMMUQ_OK);
+    WANT(done(&driver), 1);
     drop(&driver);
 }
 
@@ -317,6 +413,10 @@ int main(void) {
     broken(1, 1u << 24 | 2); /* an error, and nothing left at which it can be */
     restarts();
     messages();
+    message_of_before();
+    message_at_a_stop();
+    stale_cons();
+    acknowledged_before();
     moved();
     printf("hostile_forwarder: all told\n");
     return 0;

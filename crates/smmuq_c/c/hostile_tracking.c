@@ -320,6 +320,47 @@ static void walk_over_a_reset(void) {
     smmuq_free(&unit.handle);
 }
 
+/* Entries are removed without a command: what a walk read that began before may be what was removed. */
+static void remove_some(smmuq_unit *unit, int way) {
+    size_t count = 0;
+    switch (way) {
+    case 0: WANT(smmuq_evict_stream(&unit->handle, 5, &count), SMMUQ_OK); break;
+    case 1: WANT(smmuq_evict_machine(&unit->handle, 1, &count), SMMUQ_OK); break;
+    case 2: WANT(smmuq_evict_all(&unit->handle, SMMUQ_ALL_KINDS, &count), SMMUQ_OK); break;
+    case 3: WANT(smmuq_evict_older(&unit->handle, 0, &count), SMMUQ_OK); break;
+    default: WANT(smmuq_invalidate(&unit->handle, SMMUQ_OPCODE_CFGI_STE | UINT64_C(5) << 32, 1, &count), SMMUQ_OK); break;
+    }
+}
+
+static void walk_over_an_eviction(void) {
+    int way;
+    for (way = 0; way < 5; way++) {
+        smmuq_unit unit = new_unit(1);
+        uint64_t early = walking(&unit), late;
+        smmuq_held held;
+        invalidate(&unit, 9, 0);
+        late = walking(&unit);
+        remove_some(&unit, way);
+        want_refused_walk(&unit, early, &OTHER, SMMUQ_OTHER_WALK);
+        want_refused_walk(&unit, late, &OTHER, SMMUQ_OTHER_WALK);
+        WANT(smmuq_lookup(&unit.handle, &OTHER, &held), SMMUQ_NOT_HELD);
+        early = walking(&unit);
+        WANT(early != late, 1);
+        invalidate(&unit, 9, 0);
+        WANT(smmuq_fill_walked(&unit, early, &OTHER, 9), SMMUQ_OK);
+        WANT(smmuq_lookup(&unit.handle, &OTHER, &held), SMMUQ_OK);
+        WANT(held.born, 1);
+        late = walking(&unit);
+        remove_some(&unit, way);
+        remove_some(&unit, way);
+        want_refused_walk(&unit, early, &OTHER, SMMUQ_OTHER_WALK);
+        want_refused_walk(&unit, late, &OTHER, SMMUQ_OTHER_WALK);
+        WANT(smmuq_unit_reset(&unit), SMMUQ_OK);
+        want_refused_walk(&unit, late, &OTHER, SMMUQ_OTHER_WALK);
+        smmuq_free(&unit.handle);
+    }
+}
+
 static void let_walks_be_overtaken(void) {
     smmuq_unit unit = new_unit(1);
     const uint64_t walk = walking(&unit);
@@ -527,6 +568,7 @@ int main(void) {
     end_after_reset();
     claim_walks();
     walk_over_a_reset();
+    walk_over_an_eviction();
     let_walks_be_overtaken();
     walk_where_nothing_fits();
     let_a_sync_wait();

@@ -12,7 +12,7 @@ use Rattle.invalidations.specs.declared.request.Request.{Request}
 use Rattle.invalidations.specs.declared.request.Target.{Target}
 use Rattle.invalidations.specs.declared.space.Space.{Space}
 use Rattle.invalidations.specs.ByAddress.{commands_up_to, commands_by_address}
-use Rattle.invalidations.specs.Plans.{Plan, are_few, commands_for_whole, commands_of, following, none_of, plan_for, plan_of, planned, refusal_of, request_of, target_of, unless, wholly}
+use Rattle.invalidations.specs.Plans.{Plan, are_few, commands_for_whole, commands_of, none_of, plan_for, plan_of, planned, refusal_of, request_of, target_of, unless, wholly}
 
 one_at_most : (whole : Option Space) → length (commands_for_whole whole) ≤ 1
 one_at_most None = omega arith
@@ -37,19 +37,18 @@ wholly_few target policy =
     let one = one_at_most (wholly target policy).whole in
     omega (arith, all, none, one)
 
-by_address_few : (request : Request) (smmu : Smmu) (policy : Policy) → are_few request policy.most_commands ≡ true
-    → AreFew policy.most_commands (record { request = request; whole = following request.target.space smmu policy })
-by_address_few request smmu policy few =
-    let all = counted (record { request = request; whole = following request.target.space smmu policy }) in
+by_address_few : (request : Request) (policy : Policy) → are_few request policy.most_commands ≡ true
+    → AreFew policy.most_commands (record { request = request; whole = None })
+by_address_few request policy few =
+    let all = counted (record { request = request; whole = None }) in
     let at_most = leb-true (length (commands_by_address request)) policy.most_commands few in
-    let one = one_at_most (following request.target.space smmu policy) in
-    omega (arith, all, at_most, one)
+    omega (arith, all, at_most)
 
-plan_few : (target : Target) (smmu : Smmu) (policy : Policy) (bytes : Bytes) → AreFew policy.most_commands (plan_for target smmu policy bytes)
-plan_few target smmu policy Everything = wholly_few target policy
-plan_few target smmu policy (Range bytes) =
+plan_few : (target : Target) (policy : Policy) (bytes : Bytes) → AreFew policy.most_commands (plan_for target policy bytes)
+plan_few target policy Everything = wholly_few target policy
+plan_few target policy (Range bytes) =
     cond_both (are_few (request_of target bytes) policy.most_commands) _ _ (AreFew policy.most_commands)
-    (λ few. by_address_few (request_of target bytes) smmu policy few) (λ _. wholly_few target policy)
+    (λ few. by_address_few (request_of target bytes) policy few) (λ _. wholly_few target policy)
 
 made : (fault : Option InvalidationFault) (plan other : Plan) → unless fault other ≡ Ok plan → other ≡ plan
 made None plan other is = cc
@@ -59,4 +58,4 @@ pub few : (invalidation : Invalidation) (smmu : Smmu) (policy : Policy) (plan : 
     → length (commands_of plan) ≤ policy.most_commands + 1
 few invalidation smmu policy plan is =
     subst (AreFew policy.most_commands) (made (refusal_of invalidation smmu) plan (plan_of invalidation smmu policy) is)
-    (plan_few (target_of invalidation smmu) smmu policy invalidation.bytes)
+    (plan_few (target_of invalidation smmu) policy invalidation.bytes)

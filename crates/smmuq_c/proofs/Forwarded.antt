@@ -1,5 +1,5 @@
 -- What a call on a forwarder did, and what it told.
-use Rattle.std.proofs.Common.{◌≡◌, ℕ, suc, ◌≤◌, List, [], ◌∷◌, ◌++◌, length, refl, ap, subst, sym, ◌∙◌, arith}
+use Rattle.std.proofs.Common.{◌≡◌, ℕ, ◌≤◌, List, [], ◌∷◌, ◌++◌, length, refl, ap, subst, sym, ◌∙◌, arith}
 use Rattle.std.specs.Prelude.{drop}
 use Rattle.cmdcodec.specs.declared.raw.Raw.{Raw}
 use Rattle.hardware_queue.specs.declared.forwarded.Forwarded.{Forwarded}
@@ -7,6 +7,7 @@ use Rattle.hardware_queue.specs.declared.forwarded.Forwarded.TheVariants as answ
 use Rattle.hardware_queue.specs.declared.remedy.Remedy.{Remedy}
 use Rattle.hardware_queue.specs.declared.remedy.RemedyFault.{RemedyFault}
 use Rattle.hardware_queue.specs.declared.remedy.RemedyFault.TheVariants as fault
+use Rattle.hardware_queue.specs.declared.state.QueueState.TheVariants as state
 use Rattle.hardware_queue.specs.Steps.{HasForwarded}
 use Rattle.hardware_queue.specs.Forwarders.{IsRefused}
 use Rattle.shadow_queue.specs.declared.placement.Placement.{Placement}
@@ -14,10 +15,9 @@ use Rattle.shadow_queue.specs.Placing.{IsPlaced, count_shown}
 use Rattle.smmuq_c.specs.declared.forwarder_calls.PlacementWords.{PlacementWords}
 use Rattle.smmuq_c.specs.declared.forwarder_calls.AcknowledgementWords.{AcknowledgementWords}
 use Rattle.smmuq_c.specs.declared.status.Status.{Status}
-use Rattle.smmuq_c.specs.declared.status.Status.TheVariants as status
 use Rattle.smmuq_c.specs.HeldForwarders.{HeldForwarder}
 use Rattle.smmuq_c.specs.Kept.{IsKept}
-use Rattle.smmuq_c.specs.Forwarding.{StandsInOrder, forwarded_status, IsToldOf, TellsAnswer, HasForwardedOn, fault_status, HasAcknowledgedFor}
+use Rattle.smmuq_c.specs.Forwarding.{StandsInOrder, GoesOn, forwarded_status, IsToldOf, TellsAnswer, HasForwardedOn, fault_status, HasAcknowledgedFor}
 
 no_elements : (xs : List Raw) → length xs ≡ 0 → xs ≡ []
 no_elements [] none = refl
@@ -43,14 +43,18 @@ told_of (answer.Replaced raw) p before mid after was told old new placed count t
 told_of (answer.Broken word) p before mid after was told old new placed count tells = tells.0 ∙ none_placed before mid p old new placed count
 
 pub forwarded_on : (a : Forwarded) (p : Placement) (before mid after : List Raw) (was told : PlacementWords) (old new : HeldForwarder) (answered : Status) → 64 ≤ length before → HasForwarded (λ q. q) old new a
-    → IsPlaced before mid old.owner.queue new.owner.queue p → p.count ≡ count_shown a → TellsAnswer a p mid after was told → answered ≡ forwarded_status a → StandsInOrder new → HasForwardedOn before after told old new answered
-forwarded_on a p before mid after was told old new answered room forwarded placed count tells is stands = record {
+    → IsPlaced before mid old.owner.queue new.owner.queue p → p.count ≡ count_shown a → TellsAnswer a p mid after was told → answered ≡ forwarded_status a → StandsInOrder new
+    → ((word : ℕ) → old.owner.state ≡ state.Broken word → a ≡ answer.Broken word) → new.owner.state ≡ old.owner.state → GoesOn old new → HasForwardedOn before after told old new answered
+forwarded_on a p before mid after was told old new answered room forwarded placed count tells is stands broken stays goes_on = record {
   room = room;
   answer = a;
   forwarded = forwarded;
   status_is = is;
   told_is = told_of a p before mid after was told old new placed count tells;
+  broken = broken;
+  state_is = stays;
   stands = stands;
+  goes_on = goes_on;
 }
 
 kept_of : (a : Forwarded) (p : Placement) (before after : List Raw) (was told : PlacementWords) → TellsAnswer a p before after was told → IsKept (forwarded_status a) was told

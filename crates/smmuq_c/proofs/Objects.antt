@@ -10,7 +10,7 @@ use Rattle.engine.specs.QueueUnits.{remedy_until_then}
 use Rattle.engine.specs.Settled.{IsSettled}
 use Rattle.engine.specs.Units.{UnitValue}
 use Rattle.engine.specs.Engines.{EngineValue}
-use Rattle.transactions.specs.TrackedQueueUnits.{TrackedQueueValue, with_queue, with_its_unit}
+use Rattle.transactions.specs.TrackedQueueUnits.{TrackedQueueValue, with_queue, with_its_unit, with_removed, RefusesWalks}
 use Rattle.smmuq_c.specs.HeldConsumers.{HeldConsumer}
 use Rattle.smmuq_c.specs.HeldForwarders.{HeldForwarder}
 use Rattle.smmuq_c.specs.declared.status.Status.{Status}
@@ -21,7 +21,7 @@ use Rattle.smmuq_c.specs.Registers.{HasAcknowledged, HasAcknowledgedQueue, IsRem
 use Rattle.smmuq_c.specs.Kept.{has_unit, unit_in, IsSettledObject}
 use Rattle.smmuq_c.proofs.Unchanged.{takes_none}
 use Rattle.smmuq_c.specs.Statuses.{number_of}
-use Rattle.smmuq_c.specs.Calls.{HasCalledOn, OfUnit, OfQueue, OfSender, OfEngine, OfConsumer, OfForwarder, OfAnyUnit, OfStop, TakesNone, BySaid, OfSaid}
+use Rattle.smmuq_c.specs.Calls.{HasCalledOn, OfUnit, OfQueue, OfSender, OfEngine, OfConsumer, OfForwarder, OfAnyUnit, OfAnyEviction, OfStop, TakesNone, BySaid, OfSaid}
 
 -- what is done to an object is done to the handle that holds it
 pub called : (does : Object → Object → Status → Type 0) {held new : Option Object} {old after : Object} {number : ℕ} {status : Status}
@@ -74,6 +74,21 @@ pub any_engine : (does : UnitValue → UnitValue → Status → Type 0) {object 
 any_engine does {object} {old} {new} {status} is same settled done =
     subst (λ (o : Object). OfAnyUnit does o (EngineOf new) status) (sym is)
     (new.unit, ap EngineOf same, subst (λ (t : Trail). IsSettled new.unit.caches.entries (taken_of t)) (ap (λ (e : EngineValue). e.consumer.trail) same) settled, done)
+
+-- ---- where entries are removed without a command
+
+pub evicts_unit : (does : UnitValue → UnitValue → Status → Type 0) {object : Object} {old new : TrackedQueueValue} {status : Status}
+    → object ≡ UnitOf old → new ≡ with_removed new.queue.unit old → TakesNone old new → RefusesWalks old new → does old.queue.unit new.queue.unit status
+    → OfAnyEviction does object (UnitOf new) status
+evicts_unit does {object} {old} {new} {status} is same none walks done =
+    subst (λ (o : Object). OfAnyEviction does o (UnitOf new) status) (sym is)
+    (new.queue.unit, ap UnitOf same, subst (λ (q : TrackedQueueValue). TakesNone old q) same none, subst (λ (q : TrackedQueueValue). RefusesWalks old q) same walks, done)
+
+pub evicts_engine : (does : UnitValue → UnitValue → Status → Type 0) {object : Object} {old new : EngineValue} {status : Status}
+    → object ≡ EngineOf old → new ≡ record old { unit = new.unit } → IsSettled new.unit.caches.entries (taken_of new.consumer.trail)
+    → does old.unit new.unit status → OfAnyEviction does object (EngineOf new) status
+evicts_engine does {object} {old} {new} {status} is same settled done =
+    subst (λ (o : Object). OfAnyEviction does o (EngineOf new) status) (sym is) (any_engine does refl same settled done)
 
 -- ---- by what its words say
 

@@ -10,7 +10,7 @@ use Rattle.engine.specs.QueueUnits.{remedy_until_then}
 use Rattle.engine.specs.Engines.{EngineValue, IsSettledEngine}
 use Rattle.transactions.specs.Tracking.{StaysTracked}
 use Rattle.transactions.specs.TrackedQueueUnits.{TrackedQueueValue, tracked_in, with_queue}
-use Rattle.transactions.specs.TrackedQueueUnits.{with_its_unit}
+use Rattle.transactions.specs.TrackedQueueUnits.{with_its_unit, with_removed, RefusesWalks}
 use Rattle.smmuq_c.specs.HeldConsumers.{HeldConsumer}
 use Rattle.smmuq_c.specs.HeldForwarders.{HeldForwarder}
 use Rattle.smmuq_c.specs.Registers.{HasAcknowledged, HasAcknowledgedQueue, error_words, queue_error_words, count_words}
@@ -77,6 +77,13 @@ OfAnyUnit does (EngineOf e) new status =
     (after : UnitValue) × (new ≡ EngineOf (record e { unit = after })) × IsSettled after.caches.entries (taken_of e.consumer.trail) × does e.unit after status
 OfAnyUnit does other new status = (new ≡ other) × (status ≡ WrongHandle)
 
+-- The same where entries are removed without a command: of a unit, walks that began before are refused.
+abbrev pub OfAnyEviction : (UnitValue → UnitValue → Status → Type 0) → Object → Object → Status → Type 0
+OfAnyEviction does (UnitOf q) new status =
+    (after : UnitValue) × (new ≡ UnitOf (with_removed after q)) × TakesNone q (with_removed after q)
+    × RefusesWalks q (with_removed after q) × does q.queue.unit after status
+OfAnyEviction does other new status = OfAnyUnit does other new status
+
 -- Its stop is acknowledged. Nothing rewrites what was published in an engine's ring, so there Reread is Retry.
 abbrev pub OfStop : ℕ → StopRemedy → Object → Object → Status → Type 0
 OfStop gerrorn remedy (UnitOf q) new status =
@@ -105,3 +112,6 @@ BySaid said does other new status = (new ≡ other) × (status ≡ WrongHandle)
 
 abbrev pub OfSaid : {X : Type 0} → (Option X → Type 0) → (X → UnitValue → UnitValue → Status → Type 0) → Object → Object → Status → Type 0
 OfSaid said does old new status = BySaid said (λ x. OfAnyUnit (does x)) old new status
+
+abbrev pub EvictsSaid : {X : Type 0} → (Option X → Type 0) → (X → UnitValue → UnitValue → Status → Type 0) → Object → Object → Status → Type 0
+EvictsSaid said does old new status = BySaid said (λ x. OfAnyEviction (does x)) old new status

@@ -2,7 +2,6 @@
 use Rattle.std.specs.Prelude.{◌≡◌, ◌<◌, ◌≤◌, ◌^◌, ◌==◌, ℕ, ◌++◌, List, [], ◌∷◌, length, drop, Option, None, Some, MatchOption, Result, Ok, Err}
 use Rattle.cmdcodec.specs.declared.command.Command.{Command}
 use Rattle.cmdcodec.specs.declared.raw.Raw.{Raw}
-use Rattle.cmdcodec.specs.Fields.{bit}
 use Rattle.cmdcodec.specs.Spelling.{granule_number}
 use Rattle.cmdcodec.specs.Words.{encoding}
 use Rattle.smmu_features.specs.declared.smmu.Smmu.{Smmu}
@@ -21,7 +20,8 @@ use Rattle.invalidations.specs.declared.space.Space.{Space}
 use Rattle.invalidations.specs.declared.space.Space.TheVariants.{Stage1, Hypervisor, Stage2}
 use Rattle.invalidations.specs.Endpoints.{endpoint_refusal, IsForBytes}
 use Rattle.invalidations.specs.Filling.{AreWordsOfAll}
-use Rattle.invalidations.specs.Plans.{Plan, commands_of, planned}
+use Rattle.invalidations.specs.Plans.{Plan, commands_of, planned, stage_1_behind}
+use Rattle.invalidations.specs.Spaces.{whole_command}
 use Rattle.invalidations.specs.Targets.{number_of}
 use Rattle.batch.specs.declared.fault.BatchFault.TheVariants as batch
 use Rattle.smmuq_c.specs.Batches.{IsGiven}
@@ -69,7 +69,6 @@ SaysInvalidation c invalidation =
 abbrev pub SaysPolicy : Change → Policy → Type 0
 SaysPolicy c policy =
     (c.most_commands ≡ policy.most_commands) × (policy.global_pages ≡ (c.asids == 1))
-    × (c.nested ≡ bit policy.nested)
 
 abbrev pub SaysSubstreams : Change → Substreams → Type 0
 SaysSubstreams c All = c.substreams ≡ 0
@@ -120,10 +119,23 @@ HasEndpoint (Some fault) endpoint bytes old new told status = status ≡ fault_s
 
 abbrev pub HasAsked : Smmu → Asked → List Raw → List Raw → ℕ → Status → Type 0
 HasAsked smmu (Translations invalidation policy) = HasPlanned (planned invalidation smmu policy)
-HasAsked smmu (Accesses endpoint bytes) = HasEndpoint (endpoint_refusal bytes smmu) endpoint bytes
+HasAsked smmu (Accesses endpoint bytes) = HasEndpoint (endpoint_refusal endpoint bytes smmu) endpoint bytes
 
 -- The commands for what the fields say are given; or they say nothing.
 abbrev pub HasInvalidation : Smmu → Change → List Raw → List Raw → ℕ → Status → Type 0
 HasInvalidation smmu change old new told status =
     (asked : Option Asked) × IsSaidBy (SaysChange change) asked
     × MatchOption asked (status ≡ BadField) (λ a. HasAsked smmu a old new told status)
+
+-- ---- behind a change of stage 2
+
+abbrev pub whole_of : Option Space → Option Command
+whole_of None = None
+whole_of (Some space) = Some (whole_command space)
+
+-- The command for all of the stage 1 that goes through it is given, if the SMMU has one; or the VMID is too wide.
+abbrev pub HasNestedInvalidation : Smmu → ℕ → List Raw → List Raw → ℕ → Status → Type 0
+HasNestedInvalidation smmu vmid old new told BadField = (¬ (vmid < 2 ^ 16)) × (new ≡ old)
+HasNestedInvalidation smmu vmid old new told status =
+    (vmid < 2 ^ 16)
+    × IsGiven (words_of_one (whole_of (stage_1_behind (Stage2 vmid) smmu))) old new told status

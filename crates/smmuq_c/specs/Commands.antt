@@ -14,6 +14,7 @@ use Rattle.cmdcodec.specs.Words.{decoding}
 use Rattle.range_hints.specs.declared.ttl.Ttl.{Ttl}
 use Rattle.range_hints.specs.declared.ttl.Ttl.TheVariants.{AnyLevel}
 use Rattle.range_hints.specs.Hints.{has_ttl, ttl_number, SpellsWithHint}
+use Rattle.range_hints.specs.ReservedBits.{HasReservedBitsZero}
 use Rattle.smmuq_c.specs.declared.fields.Fields.{Fields}
 use Rattle.smmuq_c.specs.declared.status.Status.{Status}
 use Rattle.smmuq_c.specs.declared.status.Status.TheVariants.{Done, Illegal, BadField}
@@ -68,6 +69,70 @@ SaysCommand f (Kept raw) = (f.opcode ≡ opcode_of raw) × (f.lo ≡ raw.lo) × 
 SaysCommand f (CmdSync cs msh attr «data» address) =
     (f.opcode ≡ 0x46) × (f.cs ≡ cs) × (cs < 3) × (f.msh ≡ msh) × (msh < 4) × (f.attr ≡ attr) × (attr < 16) × (f.data ≡ «data») × (f.address ≡ address * 4) × (address < 2 ^ 50)
 
+-- ---- all fields of a command
+
+abbrev pub no_fields : Fields
+no_fields = record {
+  opcode = 0;
+  sid = 0;
+  ssid = 0;
+  vmid = 0;
+  asid = 0;
+  leaf = 0;
+  tg = 0;
+  num = 0;
+  scale = 0;
+  ttl = 0;
+  ssv = 0;
+  global = 0;
+  size = 0;
+  cs = 0;
+  msh = 0;
+  attr = 0;
+  «data» = 0;
+  unused = 0;
+  address = 0;
+  lo = 0;
+  hi = 0;
+}
+
+abbrev pub with_reach : Reach → Fields → Fields
+with_reach Page f = f
+with_reach (Range granule num scale) f = record f { tg = granule_number granule; num = num; scale = scale }
+
+-- those of an invalidation by address
+abbrev pub by_page : ℕ → Bool → ℕ → Reach → Fields
+by_page opcode leaf page reach =
+    with_reach reach (record no_fields { opcode = opcode; leaf = bit leaf; address = page * 4096 })
+
+-- the fields of a command, with 0 for those that it doesn't have and for its level hint
+abbrev pub fields_of : Command → Fields
+fields_of (CfgiSte sid leaf) = record no_fields { opcode = 0x03; sid = sid; leaf = bit leaf }
+fields_of (CfgiSteRange sid range) = record no_fields { opcode = 0x04; sid = sid; size = range }
+fields_of (CfgiCd sid ssid leaf) = record no_fields { opcode = 0x05; sid = sid; ssid = ssid; leaf = bit leaf }
+fields_of (CfgiCdAll sid) = record no_fields { opcode = 0x06; sid = sid }
+fields_of (TlbiNhAll vmid) = record no_fields { opcode = 0x10; vmid = vmid }
+fields_of (TlbiNhAsid vmid asid) = record no_fields { opcode = 0x11; vmid = vmid; asid = asid }
+fields_of (TlbiNhVa vmid asid leaf page reach) = record (by_page 0x12 leaf page reach) { vmid = vmid; asid = asid }
+fields_of (TlbiNhVaa vmid leaf page reach) = record (by_page 0x13 leaf page reach) { vmid = vmid }
+fields_of TlbiEl2All = record no_fields { opcode = 0x20 }
+fields_of (TlbiEl2Asid asid) = record no_fields { opcode = 0x21; asid = asid }
+fields_of (TlbiEl2Va asid leaf page reach) = record (by_page 0x22 leaf page reach) { asid = asid }
+fields_of (TlbiEl2Vaa leaf page reach) = by_page 0x23 leaf page reach
+fields_of (TlbiS12Vmall vmid) = record no_fields { opcode = 0x28; vmid = vmid }
+fields_of (TlbiS2Ipa vmid leaf page reach) = record (by_page 0x2a leaf page reach) { vmid = vmid }
+fields_of TlbiNsnhAll = record no_fields { opcode = 0x30 }
+fields_of (AtcInv sid ssv ssid global size page) =
+    record no_fields { opcode = 0x40; sid = sid; ssv = bit ssv; ssid = ssid; global = bit global; size = size; address = page * 4096 }
+fields_of (Kept raw) = record no_fields { opcode = opcode_of raw; lo = raw.lo; hi = raw.hi }
+fields_of (CmdSync cs msh attr «data» address) =
+    record no_fields { opcode = 0x46; cs = cs; msh = msh; attr = attr; «data» = «data»; address = address * 4 }
+
+-- They say the command, with this level hint, and nothing else.
+pub record AreFieldsOf (f : Fields) (command : Command) : Type 0 where
+  pub says : SaysCommand f command
+  pub exactly : f ≡ record (fields_of command) { ttl = f.ttl }
+
 -- It is the command that the fields say, or there is none.
 abbrev pub IsCommandOf : Fields → Option Command → Type 0
 IsCommandOf f None = (command : Command) → ¬ SaysCommand f command
@@ -86,7 +151,7 @@ check_status (Some ill) = Illegal ill
 
 -- The fields are those of the command that legal words spell; for illegal words they stay.
 abbrev pub HasDecoded : Result Command Ill → Fields → Fields → Type 0
-HasDecoded (Ok command) old new = SaysCommand new command
+HasDecoded (Ok command) old new = AreFieldsOf new command
 HasDecoded (Err ill) old new = new ≡ old
 
 -- The hint of legal words is among the fields.
@@ -106,7 +171,7 @@ abbrev pub IsHintOf : Fields → Command → Option Ttl → Type 0
 IsHintOf f command None = (ttl : Ttl) → ¬ SaysHint f command ttl
 IsHintOf f command (Some ttl) = SaysHint f command ttl
 
--- The fields say this command and this hint, and the words spell both.
+-- The fields say this command and this hint, and the words spell both, with all reserved bits 0.
 pub record AreWordsOf (f : Fields) (raw : Raw) : Type 0 where
   pub command : Command
   pub ttl : Ttl
@@ -114,6 +179,7 @@ pub record AreWordsOf (f : Fields) (raw : Raw) : Type 0 where
   pub hints : SaysHint f command ttl
   pub spelled : SpellsWithHint raw command ttl
   pub decoded : decoding raw ≡ Ok command
+  pub reserved : HasReservedBitsZero raw command
 
 -- The words spell the command that the fields say; or they say none, and the words stay.
 abbrev pub HasEncoded : Fields → Raw → Raw → Status → Type 0

@@ -8,7 +8,7 @@ use Rattle.caches.specs.OwnerTests.{is_of_stream, is_of_machine}
 use Rattle.smmuq_c.specs.declared.object.Object.{Object}
 use Rattle.smmuq_c.specs.declared.status.Status.{Status}
 use Rattle.smmuq_c.specs.declared.status.Status.TheVariants.{Done}
-use Rattle.smmuq_c.specs.Calls.{OfAnyUnit, OfSaid}
+use Rattle.smmuq_c.specs.Calls.{OfAnyEviction, EvictsSaid}
 
 -- The entries whose tags pass are gone, and their number is told.
 pub record HasEvictedAll (passes : Tag → Bool) (told : ℕ) (old new : UnitValue) (status : Status) : Type 0 where
@@ -28,13 +28,13 @@ IsMachineOf vmid (Some machine) = (vmid < 2 ^ 16) × (machine ≡ record { 0 = v
 -- ---- what each call does to a unit or an engine
 
 abbrev pub EvictsKinds : ℕ → ℕ → Object → Object → Status → Type 0
-EvictsKinds kinds told = OfSaid (AreKindsOf kinds) (λ kinds. HasEvictedAll (is_of_kinds kinds) told)
+EvictsKinds kinds told = EvictsSaid (AreKindsOf kinds) (λ kinds. HasEvictedAll (is_of_kinds kinds) told)
 
 abbrev pub EvictsStream : ℕ → ℕ → Object → Object → Status → Type 0
-EvictsStream sid told = OfAnyUnit (HasEvictedAll (is_of_stream (record { 0 = sid })) told)
+EvictsStream sid told = OfAnyEviction (HasEvictedAll (is_of_stream (record { 0 = sid })) told)
 
 abbrev pub EvictsMachine : ℕ → ℕ → Object → Object → Status → Type 0
-EvictsMachine vmid told = OfSaid (IsMachineOf vmid) (λ m. HasEvictedAll (is_of_machine m) told)
+EvictsMachine vmid told = EvictsSaid (IsMachineOf vmid) (λ m. HasEvictedAll (is_of_machine m) told)
 
 abbrev pub EvictsOlder : ℕ → ℕ → Object → Object → Status → Type 0
-EvictsOlder born told = OfAnyUnit (HasEvictedOlder born told)
+EvictsOlder born told = OfAnyEviction (HasEvictedOlder born told)

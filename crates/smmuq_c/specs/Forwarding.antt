@@ -1,7 +1,9 @@
 -- What calls on a forwarder do.
-use Rattle.std.specs.Prelude.{◌≡◌, ℕ, ◌+◌, ◌<◌, ◌≤◌, ◌⊎◌, List, [], ◌∷◌, length, map, drop, Option, None, Some}
+use Rattle.std.specs.Prelude.{◌≡◌, ℕ, ◌<◌, ◌≤◌, ◌⊎◌, List, ◌∷◌, length, map, drop, Option, None, Some}
 use Rattle.cmdcodec.specs.declared.raw.Raw.{Raw}
+use Rattle.ringcore.specs.declared.world.event.Who.TheVariants.{Consumer as ConsumerOf}
 use Rattle.ringcore.specs.world.World.{taken_as}
+use Rattle.ring.specs.table.Histories.{Grew}
 use Rattle.ring.specs.consumer.Deferring.{settled_raws}
 use Rattle.hardware_queue.specs.declared.forwarded.Acknowledgement.{Acknowledgement}
 use Rattle.hardware_queue.specs.declared.forwarded.Forwarded.{Forwarded}
@@ -13,6 +15,8 @@ use Rattle.hardware_queue.specs.declared.remedy.Remedy.{Remedy}
 use Rattle.hardware_queue.specs.declared.remedy.Remedy.TheVariants.{Retry, Replace}
 use Rattle.hardware_queue.specs.declared.remedy.RemedyFault.{RemedyFault}
 use Rattle.hardware_queue.specs.declared.remedy.RemedyFault.TheVariants as fault
+use Rattle.hardware_queue.specs.declared.state.QueueState.{QueueState}
+use Rattle.hardware_queue.specs.declared.state.QueueState.TheVariants as states
 use Rattle.hardware_queue.specs.Owners.{IsBroken, state_after}
 use Rattle.hardware_queue.specs.Flights.{HasConsumedAll, IsInOrder}
 use Rattle.hardware_queue.specs.Steps.{HasForwarded, HasSettledAt}
@@ -33,6 +37,23 @@ pub record StandsInOrder (f : HeldForwarder) : Type 0 where
   pub order : IsInOrder f.owner.queue f.consumer.consumer.history
   pub consumed : HasConsumedAll f.owner.queue (map taken_as (settled_raws f.consumer))
 
+-- ---- what is known of the ring
+
+-- The run of the ring that its consumer knows grew by exactly its own steps, and it is of the same ring.
+pub record GoesOn (old new : HeldForwarder) : Type 0 where
+  pub history : Grew ConsumerOf old.consumer.consumer.trail new.consumer.consumer.trail old.consumer.consumer.history new.consumer.consumer.history
+  pub ring : new.consumer.consumer.ring ≡ old.consumer.consumer.ring
+
+-- ---- a queue that was found broken
+
+-- Nothing is forwarded,
+abbrev pub ForwardsNone : QueueState → Forwarded → Type 0
+ForwardsNone found given = (word : ℕ) → found ≡ states.Broken word → given ≡ answer.Broken word
+
+-- and it is told again that it is broken.
+abbrev pub StaysBroken : QueueState → Progress → Type 0
+StaysBroken found made = (word : ℕ) → found ≡ states.Broken word → made ≡ progress.Broken word
+
 -- ---- forwarding
 
 abbrev pub forwarded_status : Forwarded → Status
@@ -45,7 +66,7 @@ forwarded_status (answer.Replaced raw) = status.Replaced
 forwarded_status (answer.Broken word) = status.QueueBroken
 
 abbrev pub placement_words : Placement → PlacementWords
-placement_words p = record { slot = p.slot; count = p.count; prod = p.prod }
+placement_words p = record { slot = p.slot; count = p.count; prod = p.prod; message = p.message }
 
 -- The buffer begins with the commands that the hardware is shown, and is told where they go.
 pub record IsToldPlacement (before after : List Raw) (told : PlacementWords) (old new : HeldForwarder) : Type 0 where
@@ -72,7 +93,10 @@ pub record HasForwardedOn (before after : List Raw) (told : PlacementWords) (old
   pub forwarded : HasForwarded (λ q. q) old new answer
   pub status_is : answered ≡ forwarded_status answer
   pub told_is : IsToldOf answer before after told old new
+  pub broken : ForwardsNone old.owner.state answer
+  pub state_is : new.owner.state ≡ old.owner.state
   pub stands : StandsInOrder new
+  pub goes_on : GoesOn old new
 
 -- There was no room for a run.
 pub record HadNoRoomToForward (before after : List Raw) (old new : HeldForwarder) (answered : Status) : Type 0 where
@@ -104,10 +128,12 @@ pub record HasPolledFor (words : RegisterWords) (before told : ℕ) (old new : H
   pub looked : ¬ IsBroken old.owner.state → HasLooked words old.owner.queue new.owner.queue progress
   pub state : ¬ IsBroken old.owner.state → new.owner.state ≡ state_after progress
   pub broken : IsBroken old.owner.state → new ≡ old
+  pub stays : StaysBroken old.owner.state progress
   pub settled : HasSettledAt progress new.owner.queue old.consumer new.consumer
   pub status_is : answered ≡ polled_status progress
   pub told_is : told ≡ consumed_by progress before
   pub stands : StandsInOrder new
+  pub goes_on : GoesOn old new
 
 -- ---- acknowledging
 
@@ -133,6 +159,6 @@ acknowledgement_words a = record { command = a.stopped.command; slot = slot_or_n
 abbrev pub HasAcknowledgedFor : ℕ → Remedy → AcknowledgementWords → HeldForwarder → HeldForwarder → Status → Type 0
 HasAcknowledgedFor gerrorn remedy told old new status.Done =
     (a : Acknowledgement) × HasRemediedWith remedy gerrorn old.owner.state old.owner.queue new.owner.queue a
-    × (told ≡ acknowledgement_words a) × (new.consumer ≡ old.consumer)
+    × (told ≡ acknowledgement_words a) × (new.consumer ≡ old.consumer) × (new.owner.state ≡ states.Running)
 HasAcknowledgedFor gerrorn remedy told old new answered =
     (refusal : RemedyFault) × IsRefused remedy old.owner.state old.owner.queue refusal × (answered ≡ fault_status refusal) × (new ≡ old)

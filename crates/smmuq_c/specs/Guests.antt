@@ -32,9 +32,9 @@ OfGuest does other new status = (new ≡ other) × (status ≡ WrongHandle)
 
 -- ---- its VMID and its streams
 
--- The SMMU has the VMID.
+-- The SMMU has the VMID, and it isn't the host's own, 0.
 abbrev pub IsHad : ℕ → Smmu → Type 0
-IsHad vmid smmu = (vmid < 2 ^ 16) × (has_vmid smmu vmid ≡ true)
+IsHad vmid smmu = (0 < vmid) × (vmid < 2 ^ 16) × (has_vmid smmu vmid ≡ true)
 
 -- A guest without streams is held, or what was held before.
 abbrev pub HasMadeGuest : ℕ → Smmu → Option Object → Option Object → Status → Type 0

@@ -1,5 +1,5 @@
 -- What C gets of the error registers and the counts, and what an acknowledgement does.
-use Rattle.std.specs.Prelude.{◌≡◌, ℕ, ⊤, [], Option, Some, None, Result, Ok, Err, OnOk, OnErr, IfSome}
+use Rattle.std.specs.Prelude.{◌≡◌, ◌+◌, ℕ, ⊤, [], Option, Some, None, Result, Ok, Err, OnOk, OnErr, IfSome}
 use Rattle.engine.specs.declared.remedy.AckFault.{AckFault}
 use Rattle.engine.specs.declared.remedy.Remedy.{Remedy}
 use Rattle.engine.specs.declared.queue_unit.QueueUnit.{QueueUnit}
@@ -8,7 +8,7 @@ use Rattle.engine.specs.declared.queue_unit.StopRemedy.{StopRemedy}
 use Rattle.engine.specs.declared.queue_unit.StopRemedy.TheVariants.{Retry, Replace, Reread}
 use Rattle.engine.specs.QueueUnits.{error_number, IsStoppedQueue, OnlyRegistersChanged, queue_err_of, error_bit, acknowledged_bit, IsQueueAcknowledgement, acknowledged_with}
 use Rattle.engine.specs.Stops.{StopValue, IsAcknowledgementAnswer, acknowledged_by, err_of, word_of, command_queue_bit}
-use Rattle.engine.specs.Counting.{CountsValue}
+use Rattle.engine.specs.Counting.{CountsValue, taken}
 use Rattle.engine.specs.Units.{UnitValue}
 use Rattle.transactions.specs.Tracking.{IsTracked}
 use Rattle.transactions.specs.TrackedQueueUnits.{TrackedQueueValue, tracked_in, reset_queue}
@@ -94,5 +94,5 @@ pub record HasReset (old new : TrackedQueueValue) (status : Status) : Type 0 whe
   pub new_is : new ≡ reset_queue old
   pub tracked : IsTracked (tracked_in new) []
   pub walks : RefusesWalksOf old new
-  pub older : BringsNearer old new
+  pub older : BringsNearer (taken old.queue.unit.counts + 1) old new
   pub status_is : status ≡ Done

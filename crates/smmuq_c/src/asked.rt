@@ -3,7 +3,6 @@ ghost use Rattle.std.specs.Prelude.{◌<◌, ◌^◌, IfSome};
 ghost use Rattle.smmuq_c.specs.Changes.{IsCountable, IsSaidBy, SaysAsid, SaysBytes, SaysChange, SaysEntries, SaysInvalidation, SaysPolicy, SaysSpace, SaysSubstreams};
 
 use crate::change::Change;
-use crate::fields::flag;
 use cmdcodec::{Asid, Granule, Sid, Ssid, Vmid};
 use invalidations::{
     ByteRange, Bytes, Endpoint, Entries, Invalidation, Level, Policy, Space, Substreams,
@@ -98,16 +97,14 @@ impl Change {
         })
     }
 
-    fn policy(&self) -> Option<Policy>
-        ensures said { IsSaidBy (SaysPolicy self.now) result }
-        ensures countable { IfSome result (λ policy. policy.most_commands < 2 ^ 32) }
+    fn policy(&self) -> Policy
+        ensures said { SaysPolicy self.now result }
+        ensures countable { result.most_commands < 2 ^ 32 }
     {
-        let nested = flag(self.nested)?;
-        Some(Policy {
+        Policy {
             most_commands: u64::from(self.most_commands),
             global_pages: self.asids == 1,
-            nested,
-        })
+        }
     }
 
     fn substreams(&self) -> Option<Substreams>
@@ -136,7 +133,6 @@ impl Change {
             return Some(Asked::Accesses(Endpoint { sid, substreams }, bytes));
         }
         let invalidation = self.invalidation()?;
-        let policy = self.policy()?;
-        Some(Asked::Translations(invalidation, policy))
+        Some(Asked::Translations(invalidation, self.policy()))
     }
 }

@@ -2,12 +2,16 @@
 ghost use Rattle.std.specs.Prelude.{◌≡◌, map};
 ghost use Rattle.cmdcodec.specs.Words.{encoding};
 ghost use Rattle.smmuq_c.specs.Calls.{Answers};
-ghost use Rattle.smmuq_c.specs.Batches.{IsGiven, HasRange, HasDetach};
+ghost use Rattle.smmu_features.specs.IdRegisters.{smmu_of};
+ghost use Rattle.smmuq_c.specs.Batches.{IsGiven, HasRange, HasDetach, HasDetachedEndpoint};
 ghost use Rattle.smmuq_c.specs.Kept.{CountKept, IsCountKept, IsKept, KeptUnlessDone};
 
+use crate::fields::flag;
 use crate::status::Status;
 use batch::Batch;
 use cmdcodec::{Asid, Page, Raw, Sid, Vmid};
+use detachment::Detachment;
+use smmu_features::Smmu;
 
 /// Writes a batch's commands to a buffer, and their number to `count`.
 fn give(batch: &Batch, buffer: &mut [Raw], count: &mut usize) -> Status
@@ -66,25 +70,77 @@ fn write_range(
     }
 }
 
-/// Writes the three commands that detach a stream, and their number, 3. If the buffer is too short, the number is told
-/// all the same.
+/// Writes the commands for the configuration of a stream whose use ends, for an SMMU with these ID registers, and their
+/// number: CMD_CFGI_STE, and CMD_CFGI_CD_ALL if it has stage 1. If the buffer is too short, the number is told all the same.
 #[unsafe(no_mangle)]
-pub extern "C" fn smmuq_detach(sid: u32, buffer: &mut [Raw], count: &mut usize) -> u32
-    ensures answered { Answers (HasDetach sid buffer.old buffer.new count.new) result }
+pub extern "C" fn smmuq_detach(
+    idr0: u32,
+    idr1: u32,
+    idr3: u32,
+    idr5: u32,
+    sid: u32,
+    buffer: &mut [Raw],
+    count: &mut usize,
+) -> u32
+    ensures answered { Answers (HasDetach (smmu_of idr0 idr1 idr3 idr5) sid
+        buffer.old buffer.new count.new) result }
     ensures buffer { KeptUnlessDone result buffer.old buffer.new }
     ensures count { CountKept result count.old count.new }
 {
-    write_detach(sid, buffer, count).number()
+    let smmu = Smmu::from_registers(idr0, idr1, idr3, idr5);
+    write_detach(&smmu, sid, buffer, count).number()
 }
 
-fn write_detach(sid: u32, buffer: &mut [Raw], count: &mut usize) -> Status
-    ensures answered { HasDetach sid buffer.old buffer.new count.new result }
+fn write_detach(smmu: &Smmu, sid: u32, buffer: &mut [Raw], count: &mut usize) -> Status
+    ensures answered { HasDetach smmu.now sid buffer.old buffer.new count.new result }
     ensures buffer { IsKept result buffer.old buffer.new }
     ensures count { IsCountKept result count.old count.new }
 {
     let sid = Sid::new(u64::from(sid)).unwrap();
-    match Batch::detach(sid) {
-        Ok(batch) => give(&batch, buffer, count),
-        Err(fault) => Status::Batch(fault),
+    give(
+        &Detachment::new(sid, smmu, false).configuration(),
+        buffer,
+        count,
+    )
+}
+
+/// Writes the command for what the endpoint of such a stream caches, and the number of commands: CMD_ATC_INV, or none if
+/// `ats` is 0 or the SMMU has no ATS. It is to be sent only once those of `smmuq_detach` are complete. `BAD_FIELD` if `ats`
+/// is neither 0 nor 1. If the buffer is too short, the number is told all the same.
+#[unsafe(no_mangle)]
+pub extern "C" fn smmuq_detach_endpoint(
+    idr0: u32,
+    idr1: u32,
+    idr3: u32,
+    idr5: u32,
+    sid: u32,
+    ats: u32,
+    buffer: &mut [Raw],
+    count: &mut usize,
+) -> u32
+    ensures answered { Answers (HasDetachedEndpoint (smmu_of idr0 idr1 idr3 idr5) sid ats
+        buffer.old buffer.new count.new) result }
+    ensures buffer { KeptUnlessDone result buffer.old buffer.new }
+    ensures count { CountKept result count.old count.new }
+{
+    let smmu = Smmu::from_registers(idr0, idr1, idr3, idr5);
+    write_endpoint(&smmu, sid, ats, buffer, count).number()
+}
+
+fn write_endpoint(smmu: &Smmu, sid: u32, ats: u32, buffer: &mut [Raw], count: &mut usize) -> Status
+    ensures answered { HasDetachedEndpoint smmu.now sid ats buffer.old buffer.new count.new result }
+    ensures buffer { IsKept result buffer.old buffer.new }
+    ensures count { IsCountKept result count.old count.new }
+{
+    let Some(ats) = flag(ats) else {
+        return Status::BadField;
+    };
+    let sid = Sid::new(u64::from(sid)).unwrap();
+    match Detachment::new(sid, smmu, ats).endpoint() {
+        Some(batch) => give(&batch, buffer, count),
+        None => {
+            *count = 0;
+            Status::Done
+        }
     }
 }

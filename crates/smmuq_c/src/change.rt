@@ -25,10 +25,6 @@ pub struct Change {
     pub everything: u32,
     /// The most commands by address. Where more are needed, the whole space is invalidated.
     pub most_commands: u32,
-    /// 1 if stage 2 is followed by all of stage 1 of that VMID.
-    pub nested: u32,
-    /// So that no byte of it is padding.
-    pub unused: u32,
     pub first: u64,
     pub length: u64,
 }

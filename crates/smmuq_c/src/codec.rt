@@ -20,9 +20,9 @@ use std::alloc::Global;
 /// The version of this interface.
 #[unsafe(no_mangle)]
 pub extern "C" fn smmuq_version() -> u32
-    ensures { result ≡ 5 }
+    ensures { result ≡ 6 }
 {
-    5
+    6
 }
 
 fn decode_status(decoded: Result<Command, Ill>) -> Status

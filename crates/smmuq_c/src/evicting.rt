@@ -1,6 +1,6 @@
 //! Evicting entries by their kinds, their stream, their virtual machine or their age, and the exports that do it.
 ghost use Rattle.std.specs.Prelude.{◌≡◌};
-ghost use Rattle.smmuq_c.specs.Calls.{HasCalled, OfAnyUnit};
+ghost use Rattle.smmuq_c.specs.Calls.{HasCalled, OfAnyEviction};
 ghost use Rattle.smmuq_c.specs.Evicting.{IsMachineOf, HasEvictedAll, EvictsKinds, EvictsStream, EvictsMachine, EvictsOlder};
 ghost use Rattle.smmuq_c.specs.Kept.{IsKept, KeptUnlessDone};
 
@@ -12,7 +12,7 @@ use cmdcodec::{Sid, Vmid};
 
 /// Evicts all entries of a unit or an engine whose tags are of some kinds, and tells how many they were. Bit `kind - 1`
 /// of `kinds` stands for each of the kinds 1 to 6: 0x3f evicts all entries, 0 none. `BAD_FIELD` if another bit is set:
-/// then nothing changed. Takes no memory for that.
+/// then nothing changed. Walks that began before are refused from then on. Takes no memory for that.
 #[unsafe(no_mangle)]
 pub extern "C" fn smmuq_evict_all(handle: &mut Handle, kinds: u32, count: &mut usize) -> u32
     ensures called { HasCalled (EvictsKinds kinds count.new) handle.old handle.new result }
@@ -38,7 +38,8 @@ fn evict_kinds(object: &mut Object, kinds: u32, count: &mut usize) -> Status
 }
 
 /// Evicts all that a unit or an engine holds of a stream, and tells how many entries they were: its stream table entry,
-/// its context descriptors, and what its endpoint holds. Takes no memory for that.
+/// its context descriptors, and what its endpoint holds. Walks that began before are refused from then on. Takes no
+/// memory for that.
 #[unsafe(no_mangle)]
 pub extern "C" fn smmuq_evict_stream(handle: &mut Handle, sid: u32, count: &mut usize) -> u32
     ensures called { HasCalled (EvictsStream sid count.new) handle.old handle.new result }
@@ -64,7 +65,8 @@ fn evict_stream(object: &mut Object, sid: u32, count: &mut usize) -> Status
 }
 
 /// Evicts all translations of a virtual machine, of stage 1 and of stage 2, that a unit or an engine holds, and tells how
-/// many they were. `BAD_FIELD` if `vmid` has more than 16 bits. Takes no memory for that.
+/// many they were. `BAD_FIELD` if `vmid` has more than 16 bits. Walks that began before are refused from then on. Takes no
+/// memory for that.
 #[unsafe(no_mangle)]
 pub extern "C" fn smmuq_evict_machine(handle: &mut Handle, vmid: u32, count: &mut usize) -> u32
     ensures called { HasCalled (EvictsMachine vmid count.new) handle.old handle.new result }
@@ -99,7 +101,7 @@ fn evict_machine(object: &mut Object, vmid: u32, count: &mut usize) -> Status
 }
 
 /// Evicts all entries of a unit or an engine that were filled before `born` commands were taken, and tells how many they
-/// were. Takes no memory for that.
+/// were. Walks that began before are refused from then on. Takes no memory for that.
 #[unsafe(no_mangle)]
 pub extern "C" fn smmuq_evict_older(handle: &mut Handle, born: u64, count: &mut usize) -> u32
     ensures called { HasCalled (EvictsOlder born count.new) handle.old handle.new result }
@@ -134,7 +136,7 @@ fn evict_older(object: &mut Object, born: u64, count: &mut usize) -> Status
 
 /// Evicts all entries of a unit or an engine whose tags pass a test, and tells how many they were.
 fn evict_passing<T: TagTest>(object: &mut Object, test: &T, count: &mut usize) -> Status
-    ensures called { OfAnyUnit (HasEvictedAll (T.passing test.now) count.new) object.old object.new
+    ensures called { OfAnyEviction (HasEvictedAll (T.passing test.now) count.new) object.old object.new
         result }
     ensures kept { IsKept result count.old count.new }
 {

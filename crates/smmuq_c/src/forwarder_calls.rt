@@ -21,6 +21,8 @@ pub struct PlacementWords {
     pub count: u32,
     /// The value for SMMU_CMDQ_PROD.
     pub prod: u32,
+    /// The data for an MSI of the first, if that is a CMD_SYNC; for one behind it as many more.
+    pub message: u32,
 }
 
 /// What acknowledges an error.

@@ -20,8 +20,8 @@ use smmu_features::Smmu;
 use std::alloc::Global;
 
 /// Makes a guest without streams, whose stage 1 has the VMID `vmid` on a host whose SMMU has these ID registers. What the
-/// handle held is dropped. `BAD_FIELD` if the SMMU doesn't have the VMID, `NO_MEMORY` if there is none: then the handle is
-/// as before.
+/// handle held is dropped. `BAD_FIELD` if the SMMU doesn't have the VMID or it is 0, the host's own; `NO_MEMORY` if there is
+/// none: then the handle is as before.
 #[unsafe(no_mangle)]
 pub extern "C" fn smmuq_guest_new(
     alloc: Global,
@@ -42,6 +42,9 @@ pub extern "C" fn smmuq_guest_new(
 fn make_guest(alloc: Global, vmid: u32, smmu: Smmu, guest: &mut Handle) -> Status
     ensures { HasMadeGuest vmid smmu guest.old.object guest.new.object result }
 {
+    if vmid == 0 {
+        return Status::BadField;
+    }
     let Some(vmid) = Vmid::new(u64::from(vmid)) else {
         return Status::BadField;
     };

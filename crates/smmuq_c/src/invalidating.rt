@@ -2,7 +2,7 @@
 ghost use Rattle.std.specs.Prelude.{◌≡◌};
 ghost use Rattle.cmdcodec.specs.Words.{decoding};
 ghost use Rattle.caches.specs.Covers.{covers};
-ghost use Rattle.smmuq_c.specs.Calls.{HasCalled, OfAnyUnit};
+ghost use Rattle.smmuq_c.specs.Calls.{HasCalled, OfAnyEviction};
 ghost use Rattle.smmuq_c.specs.Evicting.{HasEvictedAll};
 ghost use Rattle.smmuq_c.specs.Invalidating.{Invalidates};
 ghost use Rattle.smmuq_c.specs.Kept.{IsKept, KeptUnlessDone};
@@ -13,7 +13,8 @@ use crate::status::Status;
 use cmdcodec::{Command, Raw, decode};
 
 /// Removes the entries of a unit or an engine that legal words cover, without taking them, and tells how many they were.
-/// An `ILL_` status for illegal words: then nothing changed. Takes no memory for that.
+/// An `ILL_` status for illegal words: then nothing changed. Walks that began before are refused from then on. Takes no
+/// memory for that.
 #[unsafe(no_mangle)]
 pub extern "C" fn smmuq_invalidate(handle: &mut Handle, lo: u64, hi: u64, count: &mut usize) -> u32
     ensures called { HasCalled (Invalidates (decoding (record { lo = lo; hi = hi })) count.new)
@@ -40,7 +41,7 @@ fn invalidate(object: &mut Object, raw: Raw, count: &mut usize) -> Status
 }
 
 fn invalidate_by(object: &mut Object, command: &Command, count: &mut usize) -> Status
-    ensures called { OfAnyUnit (HasEvictedAll (covers command.now) count.new) object.old object.new
+    ensures called { OfAnyEviction (HasEvictedAll (covers command.now) count.new) object.old object.new
         result }
     ensures kept { IsKept result count.old count.new }
 {

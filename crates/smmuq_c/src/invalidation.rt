@@ -6,15 +6,15 @@ ghost use Rattle.invalidations.specs.Filling.{AreWordsOfAll};
 ghost use Rattle.invalidations.specs.Plans.{commands_of, planned};
 ghost use Rattle.smmuq_c.specs.Batches.{IsGiven};
 ghost use Rattle.smmuq_c.specs.Calls.{Answers};
-ghost use Rattle.smmuq_c.specs.Changes.{AreGiven, HasAsked, HasInvalidation, HasPlanned, IsCountable, fault_status, words_of_one};
+ghost use Rattle.smmuq_c.specs.Changes.{AreGiven, HasAsked, HasInvalidation, HasNestedInvalidation, HasPlanned, IsCountable, fault_status, words_of_one};
 ghost use Rattle.smmuq_c.specs.Kept.{CountKept, IsCountKept, IsKept, KeptUnlessDone};
 
 use crate::asked::Asked;
 use crate::change::Change;
 use crate::status::Status;
 use batch::BatchFault;
-use cmdcodec::{Command, Raw, encode};
-use invalidations::{Commands, Invalidation, InvalidationFault, Policy};
+use cmdcodec::{Command, Granule, Raw, Vmid, encode};
+use invalidations::{Bytes, Commands, Entries, Invalidation, InvalidationFault, Policy, Space};
 use smmu_features::Smmu;
 
 fn fault_status(fault: InvalidationFault) -> Status
@@ -47,6 +47,48 @@ pub extern "C" fn smmuq_invalidation(
     let smmu = Smmu::from_registers(idr0, idr1, idr3, idr5);
     let change = Change::read(change);
     write_invalidation(&smmu, &change, buffer, count).number()
+}
+
+/// Writes the command that follows a change of stage 2 under which stage 1 of the VMID is nested, and the number of
+/// commands: CMD_TLBI_NH_ALL of the VMID, or none if the SMMU has no stage 1. It is to be sent only once those for the change
+/// are complete. `BAD_FIELD` if `vmid` has more than 16 bits. If the buffer is too short, the number is told all the same.
+#[unsafe(no_mangle)]
+pub extern "C" fn smmuq_nested_invalidation(
+    idr0: u32,
+    idr1: u32,
+    idr3: u32,
+    idr5: u32,
+    vmid: u32,
+    buffer: &mut [Raw],
+    count: &mut usize,
+) -> u32
+    ensures answered { Answers (HasNestedInvalidation (smmu_of idr0 idr1 idr3 idr5) vmid
+        buffer.old buffer.new count.new) result }
+    ensures buffer { KeptUnlessDone result buffer.old buffer.new }
+    ensures count { CountKept result count.old count.new }
+{
+    let smmu = Smmu::from_registers(idr0, idr1, idr3, idr5);
+    write_nested(&smmu, vmid, buffer, count).number()
+}
+
+fn write_nested(smmu: &Smmu, vmid: u32, buffer: &mut [Raw], count: &mut usize) -> Status
+    ensures answered { HasNestedInvalidation smmu.now vmid buffer.old buffer.new count.new result }
+    ensures buffer { IsKept result buffer.old buffer.new }
+    ensures count { IsCountKept result count.old count.new }
+{
+    let Some(vmid) = Vmid::new(u64::from(vmid)) else {
+        return Status::BadField;
+    };
+    let stage_2 = Invalidation {
+        space: Space::Stage2 { vmid },
+        bytes: Bytes::Everything,
+        granule: Granule::Kib4,
+        entries: Entries::Any,
+    };
+    match stage_2.stage_1_behind(smmu) {
+        Some(stage_1) => give_command(Some(stage_1.whole()), buffer, count),
+        None => give_command(None, buffer, count),
+    }
 }
 
 fn write_invalidation(smmu: &Smmu, change: &Change, buffer: &mut [Raw], count: &mut usize) -> Status

@@ -9,8 +9,9 @@ use crate::object::Object;
 use crate::status::Status;
 
 /// Settles what the hardware has consumed, as `smmuq_forwarder_poll` does, by `message`, the data of an MSI that
-/// completed a CMD_SYNC: how many commands the hardware had been shown with it, modulo 2^32. Tells how many more were
-/// consumed: 0, and nothing changes, if it is older than what is known, or ahead of what was shown.
+/// completed a CMD_SYNC, as `smmuq_forward` or `smmuq_forwarder_restart` told it. Tells how many more were consumed: 0,
+/// and nothing changes, if it is older than what is known, as any of before a restart is, or ahead of what was shown; or
+/// where the last look found a stop or a broken queue.
 #[unsafe(no_mangle)]
 pub extern "C" fn smmuq_forwarder_poll_msi(
     forwarder: &mut Handle,

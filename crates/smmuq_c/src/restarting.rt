@@ -15,10 +15,13 @@ pub struct RestartWords {
     pub prod: u32,
     /// The value for SMMU_CMDQ_CONS.
     pub cons: u32,
+    /// The data for an MSI of the command at CONS, if that is a CMD_SYNC; for one behind it as many more.
+    pub message: u32,
 }
 
 /// Begins a hardware queue again that the caller has disabled, by SMMU_GERRORN as he read it with no error active, and
-/// tells PROD and CONS, which he writes before he enables it: what isn't known to be consumed lies between them.
+/// tells PROD and CONS, which he writes before he enables it: what isn't known to be consumed lies between them. The MSIs
+/// of CMD_SYNCs there get other data, so that those of before aren't believed.
 #[unsafe(no_mangle)]
 pub extern "C" fn smmuq_forwarder_restart(
     forwarder: &mut Handle,

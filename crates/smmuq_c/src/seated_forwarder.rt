@@ -98,6 +98,7 @@ impl SeatedForwarder {
         *told = words_of(acknowledgement);
         Status::Done
     }
+
     /// Begins the hardware's queue again, and tells with which indexes.
     pub(crate) fn restart(&mut self, gerrorn: u32, told: &mut RestartWords) -> Status
         ensures { HasRestartedFor gerrorn told.new self.old self.new result }
@@ -106,6 +107,7 @@ impl SeatedForwarder {
         *told = RestartWords {
             prod: restart.prod,
             cons: restart.cons,
+            message: self.forwarder.queue().first_message(),
         };
         Status::Done
     }
@@ -134,6 +136,7 @@ fn tell(answer: Forwarded, placement: Placement, buffer: &mut [Raw], told: &mut 
                 slot: placement.slot,
                 count: placement.count,
                 prod: placement.prod,
+                message: placement.message,
             };
         }
         Forwarded::Replaced(raw) => buffer[0] = raw,

@@ -3,3 +3,4 @@ pub mod WorkedUnits
 pub mod WorkedEnds
 pub mod WorkedRuns
 pub mod Crossing
+pub mod WorkedBeginnings

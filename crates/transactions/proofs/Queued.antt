@@ -17,6 +17,7 @@ use Rattle.engine.specs.Settled.{IsSettled}
 use Rattle.engine.specs.Units.{UnitValue, IsApplied, HasJudgedWords, HasReplacedAwaited, StaysSettled, took_words, took_awaited}
 use Rattle.engine.specs.QueueUnits.{HasJudgedAgain, HasJudgedOthers, HasJudgedNext, acknowledged_with}
 use Rattle.engine.proofs.Rewritten.{one_more}
+use Rattle.transactions.specs.declared.walk.WalkNumbers.{WalkNumbers}
 use Rattle.transactions.specs.Since.{last_invalidations, recent_with}
 use Rattle.transactions.specs.Outstanding.{Slots, TellCovered, NoneIsOverdue, HasCoveredOutstanding}
 use Rattle.transactions.specs.Tracking.{TrackingValue, tracked_with, IsTracked, StaysTracked}
@@ -129,12 +130,12 @@ number_kept raw old new j before after noted rereads (inl again) = same_number r
 number_kept raw old new j before after noted rereads (inr (may, others)) = same_number raw others.between new j others.judged before after noted
 
 pub taken_queue : (raw : Raw) (old new : TrackedQueueValue) (j : Judgement) → HasJudgedNext raw old.queue new.queue j
-    → IsNotedBy raw j new.queue.unit (tracking_in old) (tracking_in new) → new.before ≡ old.before → HasTakenQueue raw old new j
-taken_queue raw old new j judged noted before = record {
+    → IsNotedBy raw j new.queue.unit (tracking_in old) (tracking_in new) → new.walks ≡ old.walks → HasTakenQueue raw old new j
+taken_queue raw old new j judged noted walks = record {
   judged = judged;
   covers = covers_by raw new.queue.unit j (tracking_in old) (tracking_in new) noted;
   next_number = number_kept raw old.queue.unit new.queue.unit j (tracking_in old) (tracking_in new) noted _ judged.judged;
-  before = before;
+  walks = walks;
   takes = took_next raw old.queue.unit new.queue.unit j (tracking_in old) (tracking_in new) noted _ judged.judged;
 }
 
@@ -158,8 +159,8 @@ acknowledged_counts remedy q = either (is_some q.found) _ _ refl refl
     either true x y first second = first
     either false x y first second = second
 
-pub queue_tracked : (q : TrackedQueueValue) (queue : QueueUnit) (tracking : TrackingValue) (before : ℕ) (unit : UnitValue)
-    → record { queue = queue; recent = tracking.recent; outstanding = tracking.outstanding; next_number = tracking.next_number; before = before } ≡ q
+pub queue_tracked : (q : TrackedQueueValue) (queue : QueueUnit) (tracking : TrackingValue) (walks : WalkNumbers) (unit : UnitValue)
+    → record { queue = queue; recent = tracking.recent; outstanding = tracking.outstanding; next_number = tracking.next_number; walks = walks } ≡ q
     → taken unit.counts ≡ taken queue.unit.counts → StaysSettled queue.unit unit [] → StaysTracked (tracked_in q) (tracked_with unit tracking) []
-queue_tracked q queue tracking before unit is same settles =
+queue_tracked q queue tracking walks unit is same settles =
     subst (λ (v : TrackedQueueValue). StaysTracked (tracked_in v) (tracked_with unit tracking) []) is (λ list tracked. unit_tracked (tracked_with queue.unit tracking) unit list tracked same settles)

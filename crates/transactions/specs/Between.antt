@@ -77,7 +77,7 @@ pub record HasTakenQueue (raw : Raw) (old new : TrackedQueueValue)
   pub judged : HasJudgedNext raw old.queue new.queue judgement
   pub covers : CoversBy raw judgement old.outstanding new.outstanding
   pub next_number : new.next_number ≡ old.next_number
-  pub before : new.before ≡ old.before
+  pub walks : new.walks ≡ old.walks
   pub takes : (more : List Taken) × TookNext raw old.queue.unit judgement more
       × TakesTracked raw (tracked_in old) (tracked_in new) more
 

@@ -18,6 +18,7 @@ use Rattle.engine.specs.Units.{UnitValue, emptied, with_entries, filled, took_wo
 use Rattle.engine.specs.QueueUnits.{HasJudgedNext, new_queue_unit}
 use Rattle.transactions.specs.declared.recent_invalidations.Invalidation.{Invalidation}
 use Rattle.transactions.specs.declared.tracked_judgement.TrackedJudgement.{TrackedJudgement}
+use Rattle.transactions.specs.declared.walk.WalkNumbers.{WalkNumbers}
 use Rattle.transactions.specs.declared.tracked_judgement.TrackedJudgement.TheVariants.{Judged}
 use Rattle.transactions.specs.declared.tracked_judgement.TrackedJudgement.TheVariants.{Waiting}
 use Rattle.transactions.specs.Outstanding.{Slots, cover, HasCoveredOutstanding}
@@ -26,14 +27,13 @@ use Rattle.transactions.specs.Tracking.{unit_of, first_number}
 use Rattle.transactions.specs.Walks.{walk_number}
 use Rattle.transactions.specs.TrackedVerdicts.{IsLegalSync, HasToWait, waited_for}
 
--- the queue's unit, what is known beside it, and the number of a walk that begins before any
--- command
+-- the queue's unit, what is known beside it, and the numbers of its walks
 pub record TrackedQueueValue : Type 0 where
   pub queue : QueueUnit
   pub recent : List Invalidation
   pub outstanding : Slots
   pub next_number : ℕ
-  pub before : ℕ
+  pub walks : WalkNumbers
 
 -- the tracked unit in it
 abbrev pub tracked_in : TrackedQueueValue → TrackedValue
@@ -63,7 +63,7 @@ with_evicted_queue tag q =
 
 -- The queue and its walks are as before.
 abbrev pub KeepsQueue : TrackedQueueValue → TrackedQueueValue → Type 0
-KeepsQueue old new = (new.queue ≡ old.queue) × (new.before ≡ old.before)
+KeepsQueue old new = (new.queue ≡ old.queue) × (new.walks ≡ old.walks)
 
 -- one of this number that has taken nothing, with these caches and room for so many transactions
 abbrev pub new_tracked_queue : ℕ → Stored → ℕ → TrackedQueueValue
@@ -72,22 +72,25 @@ new_tracked_queue number caches room = record {
   recent = [];
   outstanding = replicate room None;
   next_number = first_number number;
-  before = 1;
+  walks = record { first = 1; since = 0 };
 }
 
--- ---- walks, whose numbers go on over a reset
+-- ---- walks, whose numbers go on over resets and evictions
+
+-- how many commands were taken since the last reset or eviction
+abbrev pub taken_since : TrackedQueueValue → ℕ
+taken_since q = taken q.queue.unit.counts - q.walks.since
 
 -- the number of a walk that begins now: the lower 56 bits go on
 abbrev pub walk_now : TrackedQueueValue → ℕ
-walk_now q =
-    walk_number (unit_of q.next_number) ((q.before + taken q.queue.unit.counts) % 2 ^ 56)
+walk_now q = walk_number (unit_of q.next_number) ((q.walks.first + taken_since q) % 2 ^ 56)
 
--- after how many commands of this unit a walk of this number began. One of another unit counts as
--- begun after more than are ever taken.
+-- after how many commands of this unit a walk of this number began. One of another unit, or of
+-- before the last reset or eviction, counts as begun after more than are ever taken.
 abbrev pub began_in : TrackedQueueValue → ℕ → ℕ
 began_in q walk =
     if walk / 2 ^ 56 == unit_of q.next_number
-    then (walk % 2 ^ 56 + (2 ^ 56 - q.before)) % 2 ^ 56
+    then q.walks.since + (walk % 2 ^ 56 + (2 ^ 56 - q.walks.first)) % 2 ^ 56
     else 2 ^ 56
 
 -- It began after no more commands than were taken.
@@ -100,6 +103,11 @@ IsRefusedByOthers here walk =
     (other : TrackedQueueValue) → unit_of other.next_number ≢ unit_of here.next_number
     → most_reserved < began_in other walk
 
+-- numbers that go on behind those of all walks that began until now, from this many commands on
+abbrev pub walks_from : ℕ → TrackedQueueValue → WalkNumbers
+walks_from since q =
+    record { first = (q.walks.first + (taken_since q + 1)) % 2 ^ 56; since = since }
+
 -- ---- a reset
 
 -- The caches are empty, the queue is as a new one, every slot is free, and numbers go on.
@@ -109,20 +117,34 @@ reset_queue q = record {
   recent = [];
   outstanding = replicate (length q.outstanding) None;
   next_number = q.next_number;
-  before = (q.before + (taken q.queue.unit.counts + 1)) % 2 ^ 56;
+  walks = walks_from 0 q;
 }
+
+-- ---- an eviction
+
+-- the same with another unit, some of whose entries were removed without a command; what a walk
+-- read that began until now isn't used any more, since it may be what was removed
+abbrev pub with_removed : UnitValue → TrackedQueueValue → TrackedQueueValue
+with_removed unit q = record (with_its_unit unit q) { walks = walks_from (taken q.queue.unit.counts) q }
+
+-- ---- what becomes of the walks of before
 
 -- Each walk that began here until now comes out as one of another unit.
 abbrev pub RefusesWalksOf : TrackedQueueValue → TrackedQueueValue → Type 0
 RefusesWalksOf old new = (walk : ℕ) → BeganHere old walk → most_reserved < began_in new walk
 
--- Each other of this unit comes out nearer by as many commands as were taken, and one: refused
--- still, but for one that began 2^56 - 2^46 commands and resets ago. One of another unit is as before.
-abbrev pub BringsNearer : TrackedQueueValue → TrackedQueueValue → Type 0
-BringsNearer old new =
+-- Each other of this unit comes out nearer by this: refused still, but for one that began
+-- 2^56 - 2^46 commands, resets and evictions ago. One of another unit is as before.
+abbrev pub BringsNearer : ℕ → TrackedQueueValue → TrackedQueueValue → Type 0
+BringsNearer by old new =
     (walk : ℕ) → walk / 2 ^ 56 ≡ unit_of old.next_number
     → taken old.queue.unit.counts < began_in old walk
-    → began_in new walk + (taken old.queue.unit.counts + 1) ≡ began_in old walk
+    → began_in new walk + by ≡ began_in old walk
+
+-- The numbers of walks go on so by an eviction.
+pub record RefusesWalks (old new : TrackedQueueValue) : Type 0 where
+  pub of_before : RefusesWalksOf old new
+  pub nearer : BringsNearer 1 old new
 
 -- ---- judging
 
@@ -140,7 +162,7 @@ pub record HasJudgedQueue (raw : Raw) (old new : TrackedQueueValue)
   pub judged : HasJudgedNext raw old.queue new.queue judgement
   pub covers : CoversBy raw judgement old.outstanding new.outstanding
   pub next_number : new.next_number ≡ old.next_number
-  pub before : new.before ≡ old.before
+  pub walks : new.walks ≡ old.walks
   pub none_waited_for : IsLegalSync raw → waited_for (tracked_in old) ≡ 0
 
 -- Waiting: they are a legal CMD_SYNC that has to wait for so many transactions, and nothing

@@ -9,6 +9,7 @@ use Rattle.caches.specs.Stored.{Stored, IsFillAnswer}
 use Rattle.engine.specs.Counting.{taken}
 use Rattle.engine.specs.Units.{with_entries, with_entry}
 use Rattle.transactions.specs.declared.walk.WalkFault.{WalkFault}
+use Rattle.transactions.specs.declared.walk.WalkNumbers.{WalkNumbers}
 use Rattle.transactions.specs.declared.walk.WalkFault.TheVariants.{Overtaken, TooOld, OtherUnit}
 use Rattle.transactions.specs.declared.walk.WalkFault.TheVariants.{Refused}
 use Rattle.transactions.specs.Since.{HasCoveredSince, IsTooOld}
@@ -24,6 +25,12 @@ walk_number unit began = unit * 2 ^ 56 + began
 -- than are ever taken.
 abbrev pub began_of : ℕ → ℕ → ℕ
 began_of unit walk = if walk / 2 ^ 56 == unit then walk % 2 ^ 56 else 2 ^ 56
+
+-- Numbers of 56 bits go on from this one, since no more commands were taken than now.
+pub record AreNumbers (numbers : WalkNumbers) (taken : ℕ) : Type 0 where
+  pub first : numbers.first < 2 ^ 56
+  pub since : numbers.since ≤ taken
+  pub few : taken ≤ most_reserved
 
 -- the number of a walk that begins now
 abbrev pub walk_now : TrackedValue → ℕ

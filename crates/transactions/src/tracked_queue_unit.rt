@@ -1,5 +1,5 @@
 //! A unit with walks and transactions that serves a queue in memory that its owner may write over.
-ghost use Rattle.std.specs.Prelude.{◌≡◌, ◌<◌, ◌↔◌, [], Some, Err};
+ghost use Rattle.std.specs.Prelude.{◌≡◌, ◌+◌, ◌<◌, ◌↔◌, [], Some, Err};
 ghost use Rattle.std.specs.Prelude.{IfOk, IfSome, OnOk, OnErr, IsTrue};
 ghost use Rattle.std.specs.FinMap as finite;
 ghost use Rattle.caches.specs.Covers.{covers};
@@ -15,9 +15,9 @@ ghost use Rattle.transactions.specs.Outstanding.{AreCountsOf};
 ghost use Rattle.transactions.specs.Tracking.{IsTracked, StaysTracked};
 ghost use Rattle.transactions.specs.TrackedQueueUnits.{tracked_in, new_tracked_queue, with_queue};
 ghost use Rattle.transactions.specs.TrackedQueueUnits.{with_its_unit, with_filled_queue};
-ghost use Rattle.transactions.specs.TrackedQueueUnits.{with_evicted_queue, KeepsQueue};
+ghost use Rattle.transactions.specs.TrackedQueueUnits.{with_evicted_queue, with_removed, KeepsQueue};
 ghost use Rattle.transactions.specs.TrackedQueueUnits.{walk_now, began_in, RefusesWalksOf};
-ghost use Rattle.transactions.specs.TrackedQueueUnits.{BringsNearer, IsRefusedByOthers};
+ghost use Rattle.transactions.specs.TrackedQueueUnits.{BringsNearer, RefusesWalks, IsRefusedByOthers};
 ghost use Rattle.engine.specs.Counting.{taken};
 ghost use Rattle.transactions.specs.TrackedQueueUnits.{reset_queue, IsTrackedJudgement};
 ghost use Rattle.transactions.specs.TrackedQueueUnits.{QueueWaitsExactly, HasTakenNext};
@@ -28,7 +28,7 @@ ghost use Rattle.transactions.specs.Walks.{AnswersWalk, IsCachesAnswer, with_wal
 use crate::tracked_judgement::TrackedJudgement;
 use crate::tracking::Tracking;
 use crate::transaction::{BeginFault, Ended, OutstandingCounts, Transaction};
-use crate::walk::{NUMBERS, Walk, WalkFault};
+use crate::walk::{NUMBERS, Walk, WalkFault, WalkNumbers};
 use caches::{CacheFault, Caches, Entry, Tag, TagTest};
 use cmdcodec::{Command, Raw};
 use engine::{AckFault, JudgeFault, Judgement, QueueError, QueueUnit, StopRemedy, Unit};
@@ -44,15 +44,15 @@ use std::marker::Model;
 pub struct TrackedQueueUnit {
     queue: QueueUnit,
     tracking: Tracking,
-    /// The lower 56 bits of the number of a walk that begins before any command.
-    before: u64,
+    walks: WalkNumbers,
 }
 
 impl Model for TrackedQueueUnit {
     ghost use Rattle.std.specs.Coded.{codes};
     ghost use Rattle.caches.specs.Stored.{stored_code};
-    ghost use Rattle.std.specs.Prelude.{◌<◌, ◌^◌};
+    ghost use Rattle.transactions.specs.Walks.{AreNumbers};
     ghost use Rattle.transactions.specs.TrackedQueueUnits.{TrackedQueueValue};
+    ghost use Rattle.engine.specs.Counting.{taken};
 
     ghost Value = { TrackedQueueValue };
 
@@ -63,10 +63,10 @@ impl Model for TrackedQueueUnit {
       recent = t.tracking.recent;
       outstanding = t.tracking.outstanding;
       next_number = t.tracking.next_number;
-      before = t.before;
+      walks = t.walks;
     } };
 
-    ghost invariant = { λ t. t.before < 2 ^ 56 };
+    ghost invariant = { λ t. AreNumbers t.walks (taken t.queue.unit.counts) };
 }
 
 impl TrackedQueueUnit {
@@ -88,7 +88,7 @@ impl TrackedQueueUnit {
         Ok(TrackedQueueUnit {
             queue,
             tracking,
-            before: 1,
+            walks: WalkNumbers { first: 1, since: 0 },
         })
     }
 
@@ -189,10 +189,10 @@ impl TrackedQueueUnit {
         ensures reset { self.new ≡ reset_queue self.old }
         ensures tracked { IsTracked (tracked_in self.new) [] }
         ensures walks { RefusesWalksOf self.old self.new }
-        ensures older { BringsNearer self.old self.new }
+        ensures older { BringsNearer (taken self.old.queue.unit.counts + 1) self.old self.new }
     {
         let taken = self.queue.unit.counts().taken();
-        self.before = (self.before + (taken + 1)) % NUMBERS;
+        self.walks = self.walks.behind(taken, 0);
         self.queue.reset();
         self.tracking.reset();
     }
@@ -206,8 +206,7 @@ impl TrackedQueueUnit {
         ensures elsewhere { IsRefusedByOthers self.now result }
     {
         let taken = self.queue.unit.counts().taken();
-        let began = (self.before + taken) % NUMBERS;
-        Walk::new(self.tracking.unit_number(), began)
+        Walk::new(self.tracking.unit_number(), self.walks.now(taken))
     }
 
     /// A translation table walk begins now that a CMD_SYNC waits for, as
@@ -224,13 +223,13 @@ impl TrackedQueueUnit {
         self.tracking.begin_outstanding_walk(&self.queue.unit, walk)
     }
 
-    /// After how many commands a walk began. Far more than can be taken if that was before a reset,
-    /// or on another unit.
+    /// After how many commands a walk began. Far more than can be taken if that was before a reset
+    /// or an eviction, or on another unit.
     fn began(&self, walk: Walk) -> u64
         ensures { result ≡ began_in self.now walk }
     {
         if walk.bits / NUMBERS == self.tracking.unit_number() {
-            (walk.bits % NUMBERS + (NUMBERS - self.before)) % NUMBERS
+            self.walks.began(walk.bits % NUMBERS)
         } else {
             NUMBERS
         }
@@ -238,8 +237,8 @@ impl TrackedQueueUnit {
 
     /// Fills what a walk read, as `TrackedUnit::fill_walked` does.
     ///
-    /// Errors, in this order, each changing nothing: OtherUnit, also if it began before a reset,
-    /// TooOld and Overtaken, if the tag's block is well formed; then those of `fill`.
+    /// Errors, in this order, each changing nothing: OtherUnit, also if it began before a reset or an
+    /// eviction, TooOld and Overtaken, if the tag's block is well formed; then those of `fill`.
     pub fn fill_walked(
         &mut self,
         walk: Walk,
@@ -338,33 +337,50 @@ impl TrackedQueueUnit {
         self.queue.unit.evict(tag)
     }
 
-    /// Removes all entries whose tags pass `test`, as `Unit::evict_all` does.
+    /// Removes all entries whose tags pass `test`, as `Unit::evict_all` does. Walks that began before
+    /// are refused, since they may have read what is removed.
     pub fn evict_all<T: TagTest>(&mut self, test: &T) -> u32
         ensures lost { HasLost (T.passing test.now) result self.old.queue.unit self.new.queue.unit }
-        ensures rest { self.new ≡ with_its_unit self.new.queue.unit self.old }
+        ensures rest { self.new ≡ with_removed self.new.queue.unit self.old }
+        ensures walks { RefusesWalks self.old self.new }
         ensures tracked { StaysTracked (tracked_in self.old) (tracked_in self.new) [] }
     {
+        self.refuse_walks();
         self.queue.unit.evict_all(test)
     }
 
     /// Removes the entries that `command` covers, without taking it, as `Unit::invalidate` does.
-    /// Transactions that began with one stay outstanding, and no CMD_SYNC waits for them for that.
+    /// Walks that began before are refused. Transactions that began with one stay outstanding, and no
+    /// CMD_SYNC waits for them for that.
     pub fn invalidate(&mut self, command: &Command) -> u32
         ensures lost { HasLost (covers command.now) result self.old.queue.unit self.new.queue.unit }
-        ensures rest { self.new ≡ with_its_unit self.new.queue.unit self.old }
+        ensures rest { self.new ≡ with_removed self.new.queue.unit self.old }
+        ensures walks { RefusesWalks self.old self.new }
         ensures tracked { StaysTracked (tracked_in self.old) (tracked_in self.new) [] }
     {
+        self.refuse_walks();
         self.queue.unit.invalidate(command)
     }
 
     /// Removes all entries that were filled before `born` commands were taken, as
-    /// `Unit::evict_older` does.
+    /// `Unit::evict_older` does. Walks that began before are refused.
     pub fn evict_older(&mut self, born: u64) -> u32
         ensures lost { HasLostOlder born result self.old.queue.unit self.new.queue.unit }
-        ensures rest { self.new ≡ with_its_unit self.new.queue.unit self.old }
+        ensures rest { self.new ≡ with_removed self.new.queue.unit self.old }
+        ensures walks { RefusesWalks self.old self.new }
         ensures tracked { StaysTracked (tracked_in self.old) (tracked_in self.new) [] }
     {
+        self.refuse_walks();
         self.queue.unit.evict_older(born)
+    }
+
+    /// Walks that began until now are refused from here on.
+    fn refuse_walks(&mut self)
+        ensures new { self.new ≡ with_removed self.old.queue.unit self.old }
+        ensures walks { RefusesWalks self.old self.new }
+    {
+        let taken = self.queue.unit.counts().taken();
+        self.walks = self.walks.behind(taken, taken);
     }
 }
 

@@ -1,6 +1,6 @@
 //! Translation table walks.
-ghost use Rattle.std.specs.Prelude.{◌≡◌, ◌<◌, ◌^◌};
-ghost use Rattle.transactions.specs.Walks.{walk_number, began_of};
+ghost use Rattle.std.specs.Prelude.{◌≡◌, ◌≤◌, ◌<◌, ◌+◌, ◌-◌, ◌%◌, ◌^◌};
+ghost use Rattle.transactions.specs.Walks.{walk_number, began_of, AreNumbers};
 
 use caches::CacheFault;
 use std::marker::Model;
@@ -67,6 +67,51 @@ impl Walk {
     }
 }
 
+/// The numbers that a unit gives its walks: they go on over resets and evictions, so that one of
+/// before is told from those behind.
+#[derive(Clone, Copy, Debug, PartialEq, Eq)]
+pub(crate) struct WalkNumbers {
+    /// The lower 56 bits of the number of a walk that begins right behind the last reset or
+    /// eviction.
+    pub(crate) first: u64,
+    /// How many commands had been taken then: none, behind a reset.
+    pub(crate) since: u64,
+}
+
+impl WalkNumbers {
+    /// The number of a walk that begins once so many commands are taken.
+    pub(crate) fn now(self, taken: u64) -> u64
+        requires { AreNumbers self taken }
+        ensures { result ≡ (self.first + (taken - self.since)) % 2 ^ 56 }
+    {
+        (self.first + (taken - self.since)) % NUMBERS
+    }
+
+    /// After how many commands a walk of this number began.
+    pub(crate) fn began(self, number: u64) -> u64
+        requires first { self.first < 2 ^ 56 }
+        requires since { self.since < 2 ^ 56 }
+        requires number { number < 2 ^ 56 }
+        ensures { result ≡ self.since + (number + (2 ^ 56 - self.first)) % 2 ^ 56 }
+    {
+        self.since + (number + (NUMBERS - self.first)) % NUMBERS
+    }
+
+    /// Numbers behind those of all walks that began while so many commands were taken.
+    pub(crate) fn behind(self, taken: u64, since: u64) -> WalkNumbers
+        requires { AreNumbers self taken }
+        ensures { result ≡ record {
+          first = (self.first + (taken - self.since + 1)) % 2 ^ 56;
+          since = since;
+        } }
+    {
+        WalkNumbers {
+            first: (self.first + (taken - self.since + 1)) % NUMBERS,
+            since,
+        }
+    }
+}
+
 /// Why what a walk read isn't used. Nothing changes. Walk again, unless the caches refuse it.
 #[derive(Clone, Copy, Debug, PartialEq, Eq, Error)]
 pub enum WalkFault {
@@ -77,7 +122,8 @@ pub enum WalkFault {
     /// covered is forgotten. That 64 are kept is this project's choice.
     #[error("too old: more than 64 invalidations were taken since the walk began")]
     TooOld,
-    /// It began on another unit, or after more commands than this one took.
+    /// It began on another unit, after more commands than this one took, or, on a
+    /// `TrackedQueueUnit`, before its last reset or eviction.
     #[error("the walk began on another unit")]
     OtherUnit,
     /// The caches refuse it.

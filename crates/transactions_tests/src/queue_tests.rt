@@ -1,6 +1,6 @@
 //! A unit of a queue in memory, with walks and transactions beside it.
 use caches::{Caches, Entry, Kind, Tag};
-use cmdcodec::{Ill, Raw, Sid};
+use cmdcodec::{Command, Ill, Raw, Sid};
 use engine::{JudgeFault, Judgement, QueueError, StopRemedy};
 use std::alloc::Global;
 use std::process::Abort;
@@ -180,6 +180,23 @@ fn a_walk_that_began_before_a_reset(rt: HostRuntime) {
     );
     let walk = unit.begin_walk().bits();
     assert_eq!(rt; fill_walked(&rt, &mut unit, walk, 5), Ok(None));
+}
+
+#[test]
+fn a_walk_that_began_before_an_eviction(rt: HostRuntime) {
+    let mut unit = filled(&rt, rt.alloc());
+    let old = unit.begin_walk().bits();
+    let command = Command::CfgiCdAll {
+        sid: Sid::new(5).expect(&rt, "a stream"),
+    };
+    assert_eq!(rt; unit.invalidate(&command), 0);
+    let refused = Err(WalkFault::OtherUnit);
+    assert_eq!(rt; fill_walked(&rt, &mut unit, old, 5), refused);
+    let walk = unit.begin_walk().bits();
+    assert_eq!(rt; fill_walked(&rt, &mut unit, walk, 7), Ok(None));
+    assert_eq!(rt; unit.evict_older(0), 0);
+    let refused = Err(WalkFault::OtherUnit);
+    assert_eq!(rt; fill_walked(&rt, &mut unit, walk, 8), refused);
 }
 
 #[test]

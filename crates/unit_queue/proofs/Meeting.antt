@@ -4,11 +4,10 @@ use Rattle.std.proofs.lemmas.Bool.{cases_lt}
 use Rattle.std.proofs.lemmas.List.{append-nil}
 use Rattle.std.proofs.lemmas.Option.{slice_get_read}
 use Rattle.std.proofs.Math.ListN.{length-set}
-use Rattle.std.specs.Prelude.{slice_get, slice_set, slice_index_or, Contains, IsTrue, ◌↔◌}
+use Rattle.std.specs.Prelude.{slice_get, slice_set, slice_index_or, Contains}
 use Rattle.cmdcodec.specs.declared.raw.Raw.{Raw}
 use Rattle.cmdcodec.specs.declared.command.Command.{Command}
 use Rattle.qindex.specs.Positions.{IndexValue, size, place, index_of}
-use Rattle.qindex.specs.Indexes.{IsQueue}
 use Rattle.ringcore.specs.declared.world.event.Outcome.TheVariants.{Applied}
 use Rattle.ringcore.specs.world.World.{Taken}
 use Rattle.engine.specs.Settled.{IsSettled}
@@ -20,13 +19,13 @@ use Rattle.hardware_queue.specs.declared.reading.Reading.{Reading}
 use Rattle.hardware_queue.specs.Queues.{Stop, plain_sync, IsFree, SyncsComplete, in_memory, command_queue_error}
 use Rattle.hardware_queue.specs.Owners.{IsOwned}
 use Rattle.hardware_queue.specs.Standing.{StandsOnceWritten, StandsOnceOverwritten, StandsOnceShown}
-use Rattle.unit_queue.specs.Queued.{Queued, IsQueued, HasEffect, seen_at}
+use Rattle.unit_queue.specs.Queued.{Queued, IsQueued, HasEffect, seen_at, MayConsume, StandsNext, IsCalledIllegal, HasGoneOn}
 
-pub same_flags : (b x y : Bool) → IsTrue b ↔ (x ≢ y) → b ≡ false → x ≡ y
-same_flags b true true tells e = refl
-same_flags b true false tells e = let differ : b ≡ true = tells.1 (λ same. cc) in absurd (cc)
-same_flags b false true tells e = let differ : b ≡ true = tells.1 (λ same. cc) in absurd (cc)
-same_flags b false false tells e = refl
+pub same_flags : (x y : Bool) → ¬ (x ≢ y) → x ≡ y
+same_flags true true never = refl
+same_flags true false never = absurd (never (λ same. cc))
+same_flags false true never = absurd (never (λ same. cc))
+same_flags false false never = refl
 
 -- ---- lists
 
@@ -131,16 +130,6 @@ stood_there m i j x is inside same = subst (λ (k : ℕ). slice_get m k ≡ Some
 same_raw : (a b : Raw) → Some a ≡ Some b → a ≡ b
 same_raw a b is = cc
 
-pub flies : (prod cons : IndexValue) (g t h : ℕ) → IsQueue prod cons g t h → cons.number ≢ prod.number → h < t
-flies prod cons g t h is other =
-    elim (cases_lt h t) [
-      | inl less ↦ less
-      | inr over ↦
-          let order = is.order in
-          let one : t ≡ h = omega (arith, over, order) in
-          absurd (other (ap (λ (i : IndexValue). i.number) is.cons_is ∙ ap (λ (p : ℕ). (index_of g p).number) (sym one) ∙ ap (λ (i : IndexValue). i.number) (sym is.prod_is)))
-    ]
-
 pub queued_consumed : (u : Queued) (prod cons next : IndexValue) (seen : Bool) (raw : Raw) (command : Command) (removed : ℕ) (new : UnitValue) → IsQueued u prod cons seen
     → u.error ≡ command_queue_error u.queue.gerrorn → u.queue.consumed < length u.queue.shown → slice_get u.queue.memory (place u.queue.geometry u.queue.consumed) ≡ Some raw
     → IsApplied raw command removed u.unit new → StaysSettled u.unit new (record { raw = raw; outcome = Applied } ∷ []) → next ≡ index_of u.queue.geometry (u.queue.consumed + 1)
@@ -182,6 +171,37 @@ queued_consumed u prod cons next seen raw command removed new is unstopped fligh
       stopped = λ active. absurd (active unstopped);
       seen_is = is.seen_is;
     }
+
+-- Seen stopped is only what is stopped.
+unseen : (seen : Bool) (before after : ℕ) → ¬ (seen ≡ true) → seen_at seen after ≡ seen_at seen before
+unseen true before after never = absurd (never refl)
+unseen false before after never = refl
+
+moved_on : (u : Queued) (new : UnitValue) (seen : Bool) (next : ℕ) → next ≡ u.queue.consumed + 1 → seen_at seen next ≡ u.queue.stopped
+    → record u { queue = record u.queue { consumed = next; stopped = seen_at seen next }; unit = new } ≡ record u { unit = new; queue = record u.queue { consumed = u.queue.consumed + 1 } }
+moved_on u new seen next more same =
+    ap (λ (s : Option Stop). record u { queue = record u.queue { consumed = next; stopped = s }; unit = new }) same
+    ∙ ap (λ (n : ℕ). record u { queue = record u.queue { consumed = n }; unit = new }) more
+
+pub consumes_next : (u : Queued) (prod cons : IndexValue) (seen : Bool) (raw : Raw) (command : Command) (removed : ℕ) (new : UnitValue) → IsQueued u prod cons seen → MayConsume u
+    → u.queue.stopped ≡ seen_at seen u.queue.consumed → StandsNext u raw → ¬ IsCalledIllegal u raw → IsApplied raw command removed u.unit new
+    → HasGoneOn u (record u { queue = record u.queue { consumed = taken new.counts; stopped = seen_at seen (taken new.counts) }; unit = new })
+consumes_next u prod cons seen raw command removed new is may stopped stands legal applied =
+    let c = is.consumed in
+    let more : taken new.counts ≡ u.queue.consumed + 1 = ap taken applied.counts ∙ (let e : u.unit.counts.applied + 1 + u.unit.counts.replaced ≡ u.queue.consumed + 1 = omega (arith, c) in e) in
+    let same = unseen seen u.queue.consumed (taken new.counts) (λ one. may.running (is.seen_is one)) ∙ sym stopped in
+    inr (
+      may,
+      inl (record {
+        raw = raw;
+        stands = stands;
+        legal = legal;
+        command = command;
+        removed = removed;
+        applied = applied;
+        new_is = moved_on u new seen (taken new.counts) more same;
+      }),
+    )
 
 -- ---- an entry is filled
 

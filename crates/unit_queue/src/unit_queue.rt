@@ -1,11 +1,11 @@
 //! The queue of a unit.
-ghost use Rattle.std.specs.Prelude.{◌≡◌, ◌↔◌, [], None, false, IfOk, IsTrue, OnOk, OnErr};
+ghost use Rattle.std.specs.Prelude.{◌≡◌, ◌+◌, length, ◌↔◌, [], None, Some, false, IfOk, IsTrue, OnOk, OnErr};
 ghost use Rattle.std.specs.FinMap as finite;
 ghost use Rattle.cmdcodec.specs.Legality.{first_ill as first_ill_of};
 ghost use Rattle.caches.specs.Held.{held};
-ghost use Rattle.hardware_queue.specs.Queues.{command_queue_error};
+ghost use Rattle.hardware_queue.specs.Queues.{command_queue_error, IsFree, IsOfIllegal, written, overwritten, MayShow, shown_up_to, HasReadCons, HasReadErrors, HasReadAcknowledged, MayAcknowledge, acknowledged_by, MayRestart, HasRestarted};
 ghost use Rattle.hardware_queue.specs.Owners.{IsNew};
-ghost use Rattle.unit_queue.specs.Queued.{HasMoved, IsStopped, IsConsOf};
+ghost use Rattle.unit_queue.specs.Queued.{MayConsume, HasMoved, HasGoneOn, HasReadGoneOn, IsCalledIllegal, IsStopped, IsConsOf};
 ghost use Rattle.unit_queue.specs.Laws.{ToldMeansNoneIsOlder};
 ghost use Rattle.engine.specs.Units.{new_unit, filled, with_entries};
 ghost use Rattle.caches.specs.Stored.{IsFillAnswer};
@@ -67,6 +67,7 @@ impl Model for UnitQueue {
       };
       unit = u.unit;
       error = u.error;
+      unsupported = u.unsupported;
     } };
 
     ghost invariant = { λ u. IsQueued (record {
@@ -84,6 +85,7 @@ impl Model for UnitQueue {
       };
       unit = u.unit;
       error = u.error;
+      unsupported = u.unsupported;
     }) u.prod u.cons u.seen };
 }
 
@@ -93,6 +95,7 @@ impl UnitQueue {
         requires { caches.entries ≡ held [] }
         ensures new { IfOk result (λ u. IsNew u.queue geometry) }
         ensures unit { IfOk result (λ u. u.unit ≡ new_unit caches) }
+        ensures unsupported { IfOk result (λ u. u.unsupported ≡ None) }
     {
         let nothing = Raw { lo: 0, hi: 0 };
         let memory = vec![in alloc; nothing; geometry.size() as usize]?;
@@ -132,7 +135,7 @@ impl UnitQueue {
 
     /// Has it call these words illegal from now on, as an SMMU does that lacks what they ask for.
     pub fn set_unsupported(&mut self, raw: Raw)
-        ensures { self.new ≡ self.old }
+        ensures { self.new ≡ record self.old { unsupported = Some raw } }
     {
         self.unsupported = Some(raw);
     }
@@ -170,19 +173,35 @@ impl UnitQueue {
 
     /// Whether it calls a command illegal.
     fn calls_illegal(&self, raw: Raw) -> bool
-        ensures { result ≡ false → first_ill_of raw ≡ None }
+        ensures illegal { IsTrue result → IsCalledIllegal self.now raw }
+        ensures legal { result ≡ false → ¬ IsCalledIllegal self.now raw }
+        ensures words { result ≡ false → first_ill_of raw ≡ None }
     {
         first_ill(raw).is_some() || self.unsupported == Some(raw)
     }
 
+    /// How many commands were shown and aren't consumed.
+    fn in_flight(&self) -> u32
+        ensures { self.now.queue.consumed + result ≡ length self.now.queue.shown }
+    {
+        indexes_tell_the_queue();
+        self.prod.distance(self.cons)
+    }
+
+    /// Whether it isn't stopped, was shown a command, and its unit takes more.
+    fn may_consume(&self) -> bool
+        ensures { IsTrue result ↔ MayConsume self.now }
+    {
+        let takes_more = self.unit.counts().taken() < MOST_RESERVED;
+        !self.is_stopped() && self.in_flight() > 0 && takes_more
+    }
+
     /// Consumes the next command if it is legal, and else stops at it.
     fn consume(&mut self)
-        ensures { HasMoved self.old self.new }
+        ensures moved { HasMoved self.old self.new }
+        ensures gone_on { HasGoneOn self.old self.new }
     {
-        if self.is_stopped()
-            || self.cons.get() == self.prod.get()
-            || self.unit.counts().taken() == MOST_RESERVED
-        {
+        if !self.may_consume() {
             return;
         }
         let raw = self.memory[self.cons.place() as usize];
@@ -216,18 +235,30 @@ impl CommandQueue for UnitQueue {
 
     ghost has_effect = { HasEffect };
 
-    fn write(&mut self, slot: u32, raw: Raw) {
+    fn write(&mut self, slot: u32, raw: Raw)
+        requires { IsFree self.old.queue slot }
+        ensures written { self.new.queue ≡ written slot raw self.old.queue }
+        ensures rest { self.new ≡ record self.old { queue = self.new.queue } }
+    {
         memory_stands();
         self.memory[slot as usize] = raw;
     }
 
-    fn overwrite(&mut self, slot: u32) {
+    fn overwrite(&mut self, slot: u32)
+        requires { IsOfIllegal self.old.queue slot }
+        ensures overwritten { self.new.queue ≡ overwritten slot self.old.queue }
+        ensures rest { self.new ≡ record self.old { queue = self.new.queue } }
+    {
         memory_stands();
         self.memory[slot as usize] = Raw { lo: 0x46, hi: 0 };
         self.lost.add(self.unit.counts().taken());
     }
 
-    fn show_prod(&mut self, prod: u32) {
+    fn show_prod(&mut self, prod: u32)
+        requires { MayShow prod self.old.queue }
+        ensures shown { self.new.queue ≡ shown_up_to prod self.old.queue }
+        ensures rest { self.new ≡ record self.old { queue = self.new.queue } }
+    {
         memory_stands();
         let index = Index::new(self.prod.geometry(), prod).unwrap();
         let count = index.distance(self.prod);
@@ -235,7 +266,10 @@ impl CommandQueue for UnitQueue {
         self.prod = self.prod.forward(count);
     }
 
-    fn read_cons(&mut self) -> u32 {
+    fn read_cons(&mut self) -> u32
+        ensures read { HasReadCons self.old.queue self.new.queue result }
+        ensures gone_on { HasReadGoneOn self.old self.new result }
+    {
         indexes_tell_the_queue();
         self.consume();
         let word = self.cons_word();
@@ -243,7 +277,11 @@ impl CommandQueue for UnitQueue {
         word
     }
 
-    fn read_gerror(&mut self) -> u32 {
+    fn read_gerror(&mut self) -> u32
+        ensures read { HasReadErrors self.old.queue self.new.queue result }
+        ensures bit { self.old.error ≡ command_queue_error result }
+        ensures rest { self.new ≡ record self.old { queue = self.new.queue } }
+    {
         if self.is_stopped() {
             self.seen = true;
         }
@@ -252,17 +290,29 @@ impl CommandQueue for UnitQueue {
         word
     }
 
-    fn read_gerrorn(&mut self) -> u32 {
+    fn read_gerrorn(&mut self) -> u32
+        ensures read { HasReadAcknowledged self.old.queue self.new.queue result }
+        ensures rest { self.new ≡ record self.old { queue = self.new.queue } }
+    {
         self.read.add(Reading::Gerrorn(self.gerrorn));
         self.gerrorn
     }
 
-    fn write_gerrorn(&mut self, word: u32) {
+    fn write_gerrorn(&mut self, word: u32)
+        requires { MayAcknowledge word self.old.queue }
+        ensures acknowledged { self.new.queue ≡ acknowledged_by word self.old.queue }
+        ensures rest { self.new ≡ record self.old { queue = self.new.queue } }
+    {
         self.seen = false;
         self.gerrorn = word;
     }
 
-    fn restart(&mut self, _prod: u32, _cons: u32) -> u32 {
+    fn restart(&mut self, prod: u32, cons: u32) -> u32
+        requires { MayRestart prod cons self.old.queue }
+        ensures restarted { HasRestarted self.old.queue self.new.queue result }
+        ensures rest { self.new ≡ record self.old { queue = self.new.queue } }
+    {
+        let _ = (prod, cons);
         self.gerrorn = self.acknowledged();
         self.seen = false;
         self.repeated.add(self.unit.counts().taken());

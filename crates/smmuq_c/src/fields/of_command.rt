@@ -4,7 +4,7 @@ ghost use Rattle.cmdcodec.specs.Fields.{bit};
 ghost use Rattle.cmdcodec.specs.Opcodes.{number_of};
 ghost use Rattle.cmdcodec.specs.declared.command.Command.TheVariants.{CfgiSte, CfgiSteRange, CfgiCd, CfgiCdAll, TlbiNhAll, TlbiNhAsid, TlbiNhVa, TlbiNhVaa, TlbiEl2Asid, TlbiEl2Va, TlbiEl2Vaa, TlbiS12Vmall, TlbiS2Ipa, AtcInv, Kept, CmdSync};
 ghost use Rattle.range_hints.specs.Hints.{ttl_number};
-ghost use Rattle.smmuq_c.specs.Commands.{SaysCommand, SaysReach};
+ghost use Rattle.smmuq_c.specs.Commands.{SaysCommand, SaysReach, by_page, fields_of, no_fields};
 
 use crate::fields::Fields;
 use cmdcodec::{
@@ -15,7 +15,8 @@ use range_hints::Ttl;
 
 impl From<Command> for Fields {
     fn from(command: Command) -> Fields
-        ensures { SaysCommand result command }
+        ensures says { SaysCommand result command }
+        ensures exactly { result ≡ fields_of command }
     {
         match command {
             Command::CfgiSte { sid, leaf } => Fields::cfgi_ste(sid, leaf),
@@ -102,6 +103,7 @@ impl Fields {
     /// The fields of a command and its level hint.
     pub(crate) fn with_hint(command: Command, ttl: Ttl) -> Fields
         ensures command { SaysCommand result command }
+        ensures exactly { result ≡ record (fields_of command) { ttl = result.ttl } }
         ensures hint { result.ttl ≡ ttl_number ttl }
     {
         Fields {
@@ -111,7 +113,7 @@ impl Fields {
     }
 
     fn of(opcode: Opcode) -> Fields
-        ensures { result ≡ record Fields.NONE { opcode = number_of opcode } }
+        ensures { result ≡ record no_fields { opcode = number_of opcode } }
     {
         Fields {
             opcode: opcode as u32,
@@ -122,6 +124,7 @@ impl Fields {
     /// The fields of an invalidation by address.
     fn by_page(opcode: Opcode, leaf: bool, page: u64, reach: Reach) -> Fields
         requires { page < 2 ^ 52 }
+        ensures exactly { result ≡ by_page (number_of opcode) leaf page reach }
         ensures opcode { result.opcode ≡ number_of opcode }
         ensures leaf { result.leaf ≡ bit leaf }
         ensures address { result.address ≡ page * 4096 }
@@ -144,7 +147,8 @@ impl Fields {
     }
 
     fn cfgi_ste(sid: Sid, leaf: bool) -> Fields
-        ensures { SaysCommand result (CfgiSte sid leaf) }
+        ensures says { SaysCommand result (CfgiSte sid leaf) }
+        ensures exactly { result ≡ fields_of (CfgiSte sid leaf) }
     {
         Fields {
             sid: sid.get(),
@@ -154,7 +158,8 @@ impl Fields {
     }
 
     fn cfgi_ste_range(sid: Sid, range: StreamRange) -> Fields
-        ensures { SaysCommand result (CfgiSteRange sid range) }
+        ensures says { SaysCommand result (CfgiSteRange sid range) }
+        ensures exactly { result ≡ fields_of (CfgiSteRange sid range) }
     {
         Fields {
             sid: sid.get(),
@@ -164,7 +169,8 @@ impl Fields {
     }
 
     fn cfgi_cd(sid: Sid, ssid: Ssid, leaf: bool) -> Fields
-        ensures { SaysCommand result (CfgiCd sid ssid leaf) }
+        ensures says { SaysCommand result (CfgiCd sid ssid leaf) }
+        ensures exactly { result ≡ fields_of (CfgiCd sid ssid leaf) }
     {
         Fields {
             sid: sid.get(),
@@ -175,7 +181,8 @@ impl Fields {
     }
 
     fn cfgi_cd_all(sid: Sid) -> Fields
-        ensures { SaysCommand result (CfgiCdAll sid) }
+        ensures says { SaysCommand result (CfgiCdAll sid) }
+        ensures exactly { result ≡ fields_of (CfgiCdAll sid) }
     {
         Fields {
             sid: sid.get(),
@@ -184,7 +191,8 @@ impl Fields {
     }
 
     fn tlbi_nh_all(vmid: Vmid) -> Fields
-        ensures { SaysCommand result (TlbiNhAll vmid) }
+        ensures says { SaysCommand result (TlbiNhAll vmid) }
+        ensures exactly { result ≡ fields_of (TlbiNhAll vmid) }
     {
         Fields {
             vmid: u32::from(vmid.get()),
@@ -193,7 +201,8 @@ impl Fields {
     }
 
     fn tlbi_nh_asid(vmid: Vmid, asid: Asid) -> Fields
-        ensures { SaysCommand result (TlbiNhAsid vmid asid) }
+        ensures says { SaysCommand result (TlbiNhAsid vmid asid) }
+        ensures exactly { result ≡ fields_of (TlbiNhAsid vmid asid) }
     {
         Fields {
             vmid: u32::from(vmid.get()),
@@ -203,7 +212,8 @@ impl Fields {
     }
 
     fn tlbi_nh_va(vmid: Vmid, asid: Asid, leaf: bool, page: Page, reach: Reach) -> Fields
-        ensures { SaysCommand result (TlbiNhVa vmid asid leaf page reach) }
+        ensures says { SaysCommand result (TlbiNhVa vmid asid leaf page reach) }
+        ensures exactly { result ≡ fields_of (TlbiNhVa vmid asid leaf page reach) }
     {
         Fields {
             vmid: u32::from(vmid.get()),
@@ -213,7 +223,8 @@ impl Fields {
     }
 
     fn tlbi_nh_vaa(vmid: Vmid, leaf: bool, page: Page, reach: Reach) -> Fields
-        ensures { SaysCommand result (TlbiNhVaa vmid leaf page reach) }
+        ensures says { SaysCommand result (TlbiNhVaa vmid leaf page reach) }
+        ensures exactly { result ≡ fields_of (TlbiNhVaa vmid leaf page reach) }
     {
         Fields {
             vmid: u32::from(vmid.get()),
@@ -222,7 +233,8 @@ impl Fields {
     }
 
     fn tlbi_el2_asid(asid: Asid) -> Fields
-        ensures { SaysCommand result (TlbiEl2Asid asid) }
+        ensures says { SaysCommand result (TlbiEl2Asid asid) }
+        ensures exactly { result ≡ fields_of (TlbiEl2Asid asid) }
     {
         Fields {
             asid: u32::from(asid.get()),
@@ -231,7 +243,8 @@ impl Fields {
     }
 
     fn tlbi_el2_va(asid: Asid, leaf: bool, page: Page, reach: Reach) -> Fields
-        ensures { SaysCommand result (TlbiEl2Va asid leaf page reach) }
+        ensures says { SaysCommand result (TlbiEl2Va asid leaf page reach) }
+        ensures exactly { result ≡ fields_of (TlbiEl2Va asid leaf page reach) }
     {
         Fields {
             asid: u32::from(asid.get()),
@@ -240,7 +253,8 @@ impl Fields {
     }
 
     fn tlbi_el2_vaa(leaf: bool, page: Page, reach: Reach) -> Fields
-        ensures { SaysCommand result (TlbiEl2Vaa leaf page reach) }
+        ensures says { SaysCommand result (TlbiEl2Vaa leaf page reach) }
+        ensures exactly { result ≡ fields_of (TlbiEl2Vaa leaf page reach) }
     {
         Fields {
             ..Fields::by_page(Opcode::TlbiEl2Vaa, leaf, page.get(), reach)
@@ -248,7 +262,8 @@ impl Fields {
     }
 
     fn tlbi_s12_vmall(vmid: Vmid) -> Fields
-        ensures { SaysCommand result (TlbiS12Vmall vmid) }
+        ensures says { SaysCommand result (TlbiS12Vmall vmid) }
+        ensures exactly { result ≡ fields_of (TlbiS12Vmall vmid) }
     {
         Fields {
             vmid: u32::from(vmid.get()),
@@ -257,7 +272,8 @@ impl Fields {
     }
 
     fn tlbi_s2_ipa(vmid: Vmid, leaf: bool, page: IpaPage, reach: Reach) -> Fields
-        ensures { SaysCommand result (TlbiS2Ipa vmid leaf page reach) }
+        ensures says { SaysCommand result (TlbiS2Ipa vmid leaf page reach) }
+        ensures exactly { result ≡ fields_of (TlbiS2Ipa vmid leaf page reach) }
     {
         Fields {
             vmid: u32::from(vmid.get()),
@@ -266,7 +282,8 @@ impl Fields {
     }
 
     fn atc_inv(sid: Sid, ssv: bool, ssid: Ssid, global: bool, size: Size, page: Page) -> Fields
-        ensures { SaysCommand result (AtcInv sid ssv ssid global size page) }
+        ensures says { SaysCommand result (AtcInv sid ssv ssid global size page) }
+        ensures exactly { result ≡ fields_of (AtcInv sid ssv ssid global size page) }
     {
         Fields {
             sid: sid.get(),
@@ -280,7 +297,8 @@ impl Fields {
     }
 
     fn cmd_sync(cs: Cs, msh: Msh, attr: Attr, data: u32, address: MsiWord) -> Fields
-        ensures { SaysCommand result (CmdSync cs msh attr «data» address) }
+        ensures says { SaysCommand result (CmdSync cs msh attr «data» address) }
+        ensures exactly { result ≡ fields_of (CmdSync cs msh attr «data» address) }
     {
         Fields {
             cs: u32::from(cs.get()),
@@ -293,7 +311,8 @@ impl Fields {
     }
 
     fn kept(kept: KeptRaw) -> Fields
-        ensures { SaysCommand result (Kept kept) }
+        ensures says { SaysCommand result (Kept kept) }
+        ensures exactly { result ≡ fields_of (Kept kept) }
     {
         let raw = kept.get();
         Fields {

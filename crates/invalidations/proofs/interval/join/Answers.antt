@@ -1,7 +1,7 @@
-use Rattle.std.proofs.Common.{◌≡◌, true, false, ◌∷◌, [], ◌++◌, ap, sym, subst, ◌∙◌, take, get_or, suc, ◌≤◌}
+use Rattle.std.proofs.Common.{sym, subst, ◌∙◌, take, get_or, ◌≤◌}
 use Rattle.std.proofs.lemmas.Grind.{take_at_read}
 use Rattle.invalidations.specs.declared.interval.Interval.{Interval}
-use Rattle.invalidations.specs.Intervals.{touches, AreJoined}
+use Rattle.invalidations.specs.Intervals.{AreJoined}
 use Rattle.invalidations.proofs.IntervalLemmas.{join_more, keep_more}
 use Rattle.invalidations.proofs.interval.join.Goals as goal
 use Rattle.invalidations.proofs.interval.join.Goals.{then-touches, else-touches}

@@ -2,7 +2,7 @@ use Rattle.std.proofs.Common.{◌≡◌, inl, inr, true, false, refl, sym, subst
 use Rattle.hardware_queue.specs.Queues.{QueueValue}
 use Rattle.hardware_queue.specs.Supplying.{CanHave, HasLooked}
 use Rattle.shadow_queue.specs.Messages.{AreToldBy}
-use Rattle.shadow_queue.proofs.Counting.{says_nothing, heard, broken_or_not, was_broken}
+use Rattle.shadow_queue.proofs.Counting.{says_nothing, heard, broken_or_not, was_broken, broken_is_not_running}
 use Rattle.shadow_queue.proofs.messages.poll_msi.Goals as goal
 
 pub returns-then-not-can_have-clause-unheard : goal.returns-then-not-can_have-clause-unheard
@@ -28,7 +28,8 @@ returns-in-Stopped c =
       heard = tt;
       running = tt;
       settled = tt;
-      unheard = inl broken;
+      was_running = tt;
+      unheard = inl (broken_is_not_running _ broken);
       kept = (c.poll_words.ensures.broken broken.0 broken.1).1;
       consumed = tt;
       order = tt;

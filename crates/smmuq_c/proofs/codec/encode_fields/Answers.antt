@@ -26,4 +26,5 @@ returns-clause-answered c = record {
   hints = c.in-Some-hint_of.ensures;
   spelled = spelled c;
   decoded = c.legal_words_spell_one_command.ensures.decoded _ _ (spelled c).spelled;
+  reserved = c.encode_with_hint.ensures.reserved;
 }

@@ -17,7 +17,7 @@ pub returns-in-Ok-clause-status : goal.returns-in-Ok-clause-status
 returns-in-Ok-clause-status c = c.number.ensures ∙ sym (ap (λ (r : Result Command Ill). number_of (decode_status r)) (is_decoded c.before.before))
 
 pub returns-in-Ok-clause-fields : goal.returns-in-Ok-clause-fields
-returns-in-Ok-clause-fields c = subst (λ (r : Result Command Ill). HasDecoded r c.args.fields.now c.with_hint.result) (sym (is_decoded c.before.before)) c.with_hint.ensures.command
+returns-in-Ok-clause-fields c = subst (λ (r : Result Command Ill). HasDecoded r c.args.fields.now c.with_hint.result) (sym (is_decoded c.before.before)) (record { says = c.with_hint.ensures.command; exactly = c.with_hint.ensures.exactly })
 
 pub returns-in-Err-clause-status : goal.returns-in-Err-clause-status
 returns-in-Err-clause-status c = c.number-in-Err.ensures ∙ sym (ap (λ (r : Result Command Ill). number_of (decode_status r)) (is_ill c.before))

@@ -15,6 +15,6 @@ invariant_of-detached c =
     (told_detached record { numbered = c.world_law.ensures.numbered; advanced_is = c.consumer_trail.ensures.advanced; outcomes = c.consumer_trail.ensures.taken }
     c.is_done-done.new.self c.trail_stands_in_a_run.ensures.history c.args.sender.now
     record { grew = c.is_done-done.ensures.history; ring_is = c.is_done-done.ensures.ring; number_is = c.is_done-done.ensures.id }
-    record { sid = c.self.inside.sid; configuration = c.self.inside.configuration; endpoint = c.self.inside.endpoint; sender = c.self.inside.sent.value }
+    record { stream = c.self.inside.stream; configuration = c.self.inside.configuration; endpoint = c.self.inside.endpoint; sender = c.self.inside.sent.value }
     (subst (λ (v : EndpointValue). WentOn v.sender c.args.sender.now) (sym c.self.view_is) c.requires.same_sender)
     c.self.invariant (c.is_done-done.ensures.told c.if-not-done.false))

@@ -1,4 +1,4 @@
-use Rattle.std.proofs.Common.{◌≡◌, ◌∷◌, Some, ap, sym, subst, ◌∙◌}
+use Rattle.std.proofs.Common.{◌≡◌, ◌∷◌, Some, subst}
 use Rattle.invalidations.specs.Plans.{Plan, commands_of}
 use Rattle.invalidations.proofs.WholeLemmas.{whole_words}
 use Rattle.invalidations.specs.Hints.{AreNextWords}
@@ -22,5 +22,5 @@ returns-in-Some-take_whole-clause-words c =
       command,
       subst (λ plan. commands_of plan ≡ command ∷ commands_of new) c.self.view_is next,
       whole_words c.args.self.now.request.target command c.encode.result c.in-Some-take_whole.ensures.whole
-          c.encode.ensures.spells c.encode.ensures.free_bits c.encode.ensures.decoded_again,
+          c.encode.ensures.spells c.encode.ensures.free_bits c.encode.ensures.decoded_again c.encode.ensures.words,
     )

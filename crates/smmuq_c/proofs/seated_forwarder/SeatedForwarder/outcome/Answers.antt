@@ -1,4 +1,4 @@
-use Rattle.std.proofs.Common.{◌<◌, ℕ, refl, inl, arith, subst, sym}
+use Rattle.std.proofs.Common.{refl, inl, arith}
 use Rattle.smmuq_c.proofs.seated_forwarder.SeatedForwarder.outcome.Goals as goal
 
 pub returns-clause-called : goal.returns-clause-called

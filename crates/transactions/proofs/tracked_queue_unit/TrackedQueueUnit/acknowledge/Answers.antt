@@ -6,7 +6,7 @@ use Rattle.transactions.proofs.tracked_queue_unit.TrackedQueueUnit.acknowledge.G
 
 pub returns-clause-tracked : goal.returns-clause-tracked
 returns-clause-tracked c =
-    queue_tracked c.args.self.now c.self.inside.queue c.self.inside.tracking c.self.inside.before c.acknowledge.new.self.unit c.self.view_is
+    queue_tracked c.args.self.now c.self.inside.queue c.self.inside.tracking c.self.inside.walks c.acknowledge.new.self.unit c.self.view_is
     (kept_by (λ (q : QueueUnit). taken q.unit.counts) c.acknowledge.result c.acknowledge.new.self _ c.self.inside.queue c.acknowledge.ensures.ok c.acknowledge.ensures.err
     (acknowledged_counts c.args.remedy c.self.inside.queue))
     c.acknowledge.ensures.settled

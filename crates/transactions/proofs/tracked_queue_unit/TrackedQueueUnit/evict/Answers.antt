@@ -6,4 +6,4 @@ use Rattle.transactions.proofs.tracked_queue_unit.TrackedQueueUnit.evict.Goals a
 
 pub returns-clause-tracked : goal.returns-clause-tracked
 returns-clause-tracked c =
-    queue_tracked c.args.self.now c.self.inside.queue c.self.inside.tracking c.self.inside.before c.evict.new.self c.self.view_is (ap (λ (u : UnitValue). taken u.counts) c.evict.ensures.new) c.evict.ensures.settled
+    queue_tracked c.args.self.now c.self.inside.queue c.self.inside.tracking c.self.inside.walks c.evict.new.self c.self.view_is (ap (λ (u : UnitValue). taken u.counts) c.evict.ensures.new) c.evict.ensures.settled

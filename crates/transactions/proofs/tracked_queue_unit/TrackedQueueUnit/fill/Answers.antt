@@ -7,5 +7,5 @@ use Rattle.transactions.proofs.tracked_queue_unit.TrackedQueueUnit.fill.Goals as
 
 pub returns-clause-tracked : goal.returns-clause-tracked
 returns-clause-tracked c =
-    queue_tracked c.args.self.now c.self.inside.queue c.self.inside.tracking c.self.inside.before c.fill.new.self c.self.view_is
+    queue_tracked c.args.self.now c.self.inside.queue c.self.inside.tracking c.self.inside.walks c.fill.new.self c.self.view_is
     (kept_by (λ (u : UnitValue). taken u.counts) c.fill.result c.fill.new.self _ c.self.inside.queue.unit c.fill.ensures.ok c.fill.ensures.err refl) c.fill.ensures.settled

@@ -15,9 +15,9 @@ pub returns-in-Applied-clause-ok : goal.returns-in-Applied-clause-ok
 returns-in-Applied-clause-ok c =
     let tracking = c.self.inside.tracking in
     let noted = c.note.new.self in
-    let before = c.self.inside.before in
-    let old : TrackedQueueValue = record { queue = c.self.inside.queue; recent = tracking.recent; outstanding = tracking.outstanding; next_number = tracking.next_number; before = before } in
-    let new : TrackedQueueValue = record { queue = c.judge.new.self; recent = noted.recent; outstanding = noted.outstanding; next_number = noted.next_number; before = before } in
+    let walks = c.self.inside.walks in
+    let old : TrackedQueueValue = record { queue = c.self.inside.queue; recent = tracking.recent; outstanding = tracking.outstanding; next_number = tracking.next_number; walks = walks } in
+    let new : TrackedQueueValue = record { queue = c.judge.new.self; recent = noted.recent; outstanding = noted.outstanding; next_number = noted.next_number; walks = walks } in
     let answer = judgement.Applied c.in-Applied.removed in
     let judged = subst (λ (j : Judgement). HasJudgedNext c.args.raw old.queue new.queue j) c.in-Applied.is c.in_ok-other.ensures.ok in
     let next = before_it _ _ (c.taken-place.ensures.value ∙ ap taken c.counts.ensures) (some_taken c.args.raw old.queue new.queue c.in-Applied.removed judged) in
@@ -26,8 +26,8 @@ returns-in-Applied-clause-ok c =
 pub returns-in_default-clause-ok : goal.returns-in_default-clause-ok
 returns-in_default-clause-ok c =
     let tracking = c.self.inside.tracking in
-    let before = c.self.inside.before in
-    let old : TrackedQueueValue = record { queue = c.self.inside.queue; recent = tracking.recent; outstanding = tracking.outstanding; next_number = tracking.next_number; before = before } in
+    let walks = c.self.inside.walks in
+    let old : TrackedQueueValue = record { queue = c.self.inside.queue; recent = tracking.recent; outstanding = tracking.outstanding; next_number = tracking.next_number; walks = walks } in
     let new : TrackedQueueValue = record old { queue = c.judge.new.self } in
     let answer = c.in_ok-other.other in
     subst (λ (q : TrackedQueueValue). HasTakenQueue c.args.raw q new answer) c.self.view_is
