@@ -2,7 +2,7 @@
 /* smmuq_memory.h: the three functions by which libsmmuq takes memory, for a host that defines them
  * itself, as a kernel. The library of `make-c-library --kernel` has none of them; every other
  * library has all three, over malloc, realloc and free: for x86-64 the toolchain's, for aarch64
- * crates/smmuq_c/c/heap.c.
+ * bindings/c/heap.c.
  *
  * What the proofs take for granted of them, and nothing checks:
  *   - a block has `size` bytes, begins at a multiple of `alignment`, and is the library's alone until
