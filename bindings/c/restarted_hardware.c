@@ -6,7 +6,8 @@
  *     restarted_hardware [BATCHES [once]]    of all drivers together, 1,000,000 else
  *
  * With `once` MSIs count each command once, and what is read again at a restart isn't counted: then some are told too early,
- * which shows that the test would see it. */
+ * which shows that the test would see it. That runs on one thread, which picks by a fixed seed whose turn it is, so that each
+ * machine answers the same. */
 #define _POSIX_C_SOURCE 200809L
 #include "smmuq.h"
 
@@ -47,6 +48,7 @@ static uint32_t below(uint64_t *state, uint32_t most) {
 static unsigned char *effects[DRIVERS];
 static uint32_t each;    /* how many batches a driver sends */
 static uint32_t message; /* the word that MSIs write */
+static int once;         /* whether MSIs count each command once, all of it on one thread */
 
 static struct {
     smmuq_command queue[SLOTS];
@@ -106,19 +108,28 @@ static void consume(smmuq_command command) {
     }
 }
 
-static void *play_hardware(void *argument) {
-    while (!get(&hardware.ended)) {
-        const uint32_t enabled = get(&hardware.enabled);
-        if (hardware.messages > 0 && below(&hardware.random, 3) == 0)
-            deliver();
-        if (hardware.waits > 0 && below(&hardware.random, 4) == 0)
-            have_some_effect();
-        set(&hardware.acknowledged, enabled);
-        if (enabled && get(&hardware.cons) != get(&hardware.prod))
-            consume(hardware.queue[hardware.cons % SLOTS]);
-        else
-            sched_yield();
-    }
+/* Lets the others have their turn. */
+static void wait_a_little(void) {
+    if (!once)
+        sched_yield();
+}
+
+static void play_hardware(void) {
+    const uint32_t enabled = get(&hardware.enabled);
+    if (hardware.messages > 0 && below(&hardware.random, 3) == 0)
+        deliver();
+    if (hardware.waits > 0 && below(&hardware.random, 4) == 0)
+        have_some_effect();
+    set(&hardware.acknowledged, enabled);
+    if (enabled && get(&hardware.cons) != get(&hardware.prod))
+        consume(hardware.queue[hardware.cons % SLOTS]);
+    else
+        wait_a_little();
+}
+
+static void *keep_playing(void *argument) {
+    while (!get(&hardware.ended))
+        play_hardware();
     return argument;
 }
 
@@ -127,7 +138,7 @@ static void *play_hardware(void *argument) {
 static struct {
     smmuq_forwarder forwarder;
     uint32_t still, restarts, ended;
-    uint32_t once, again; /* whether MSIs count each command once, and how many were read again */
+    uint32_t again; /* with `once`, how many commands were read again and not counted */
     uint64_t random;
 } owner = {.forwarder = SMMUQ_EMPTY, .random = 0xd1b54a32d192ed03};
 
@@ -162,11 +173,14 @@ static void restart(void) {
     uint32_t index, data;
     set(&hardware.enabled, 0);
     while (get(&hardware.acknowledged))
-        sched_yield();
+        if (once)
+            play_hardware();
+        else
+            sched_yield();
     check(smmuq_forwarder_restart(&owner.forwarder, 0, &again), "restart");
-    if (owner.once)
+    if (once)
         owner.again += (again.prod - again.cons) % WRAP;
-    for (index = again.cons, data = again.message; index != again.prod && !owner.once; index = (index + 1) % WRAP, data++)
+    for (index = again.cons, data = again.message; index != again.prod && !once; index = (index + 1) % WRAP, data++)
         if (is_sync(hardware.queue[index % SLOTS]))
             hardware.queue[index % SLOTS] = signalled(data);
     set(&hardware.prod, again.prod);
@@ -183,21 +197,24 @@ static void poll(void) {
     if (owner.still == PATIENCE) {
         owner.still = 0;
         const smmuq_status status = smmuq_forwarder_poll(&owner.forwarder, 0, get(&hardware.cons), &consumed);
-        if (status == SMMUQ_QUEUE_BROKEN && owner.once)
+        if (status == SMMUQ_QUEUE_BROKEN && once)
             restart();
         else
             check(status, "poll");
     }
 }
 
-static void *own(void *argument) {
-    while (!get(&owner.ended)) {
-        forward();
-        if (below(&owner.random, 50) == 0)
-            restart();
-        if (below(&owner.random, 3) > 0)
-            poll();
-    }
+static void own(void) {
+    forward();
+    if (below(&owner.random, 50) == 0)
+        restart();
+    if (below(&owner.random, 3) > 0)
+        poll();
+}
+
+static void *keep_owning(void *argument) {
+    while (!get(&owner.ended))
+        own();
     set(&hardware.ended, 1);
     return argument;
 }
@@ -208,6 +225,7 @@ struct driver {
     smmuq_sender sender;
     pthread_t thread;
     uint32_t number, early;
+    uint32_t sent, told; /* how many batches */
 };
 
 static smmuq_command command_of(const struct driver *driver, uint32_t batch, uint32_t which) {
@@ -216,32 +234,72 @@ static smmuq_command command_of(const struct driver *driver, uint32_t batch, uin
     return command;
 }
 
-static void *drive(void *argument) {
-    struct driver *driver = argument;
-    uint32_t batch, number = 0, done = 0, seen = 0;
-    for (batch = 1; batch <= each; batch++) {
-        const smmuq_command both[] = {command_of(driver, batch, 0), command_of(driver, batch, 1)};
-        smmuq_status status;
-        while ((status = smmuq_send(&driver->sender, both, 2, 64, &number)) == SMMUQ_RING_FULL || status == SMMUQ_CONTENDED)
-            sched_yield();
-        check(status, "send");
-        do {
-            if (batch == each)
-                sched_yield();
-            check(smmuq_done_up_to(&driver->sender, &done), "done_up_to");
-            for (; seen < done; seen++)
-                driver->early += __atomic_load_n(&effects[driver->number][seen + 1], __ATOMIC_ACQUIRE) != 3;
-        } while (batch == each && done < number);
+static void try_to_send(struct driver *driver) {
+    const uint32_t batch = driver->sent + 1;
+    const smmuq_command both[] = {command_of(driver, batch, 0), command_of(driver, batch, 1)};
+    uint32_t number;
+    const smmuq_status status = smmuq_send(&driver->sender, both, 2, 64, &number);
+    if (status == SMMUQ_RING_FULL || status == SMMUQ_CONTENDED) {
+        wait_a_little();
+        return;
     }
+    check(status, "send");
+    driver->sent = batch;
+}
+
+/* Sends a batch, where some are left and there is room, and looks whether those that are told had their effect. */
+static void drive(struct driver *driver) {
+    uint32_t done;
+    if (driver->sent < each)
+        try_to_send(driver);
+    else
+        wait_a_little();
+    check(smmuq_done_up_to(&driver->sender, &done), "done_up_to");
+    for (; driver->told < done; driver->told++)
+        driver->early += __atomic_load_n(&effects[driver->number][driver->told + 1], __ATOMIC_ACQUIRE) != 3;
+}
+
+static void *keep_driving(void *argument) {
+    struct driver *driver = argument;
+    while (driver->told < each)
+        drive(driver);
     return NULL;
+}
+
+/* ---- all of them */
+
+static struct driver drivers[DRIVERS];
+
+static void run_on_threads(void) {
+    pthread_t owning, playing;
+    uint32_t place;
+    pthread_create(&playing, NULL, keep_playing, NULL);
+    pthread_create(&owning, NULL, keep_owning, NULL);
+    for (place = 0; place < DRIVERS; place++)
+        pthread_create(&drivers[place].thread, NULL, keep_driving, &drivers[place]);
+    for (place = 0; place < DRIVERS; place++)
+        pthread_join(drivers[place].thread, NULL);
+    set(&owner.ended, 1);
+    pthread_join(owning, NULL);
+    pthread_join(playing, NULL);
+}
+
+/* Most turns are the hardware's, which does the least in each. */
+static void run_on_one_thread(void) {
+    uint64_t turns = 0x2545f4914f6cdd1d;
+    while (drivers[0].told < each || drivers[1].told < each)
+        switch (below(&turns, 8)) {
+        case 0: drive(&drivers[0]); break;
+        case 1: drive(&drivers[1]); break;
+        case 2: own(); break;
+        default: play_hardware();
+        }
 }
 
 int main(int argc, char **argv) {
     static smmuq_sender handles[DRIVERS];
-    static struct driver drivers[DRIVERS];
-    pthread_t owning, player;
     uint32_t place, early = 0;
-    owner.once = argc > 2;
+    once = argc > 2;
     each = (argc > 1 ? (uint32_t)strtoul(argv[1], NULL, 0) : 1000000) / DRIVERS;
     check(smmuq_forwarder_ring_new(RING_LOG2, each, LOG2, handles, DRIVERS, &owner.forwarder), "ring");
     for (place = 0; place < DRIVERS; place++) {
@@ -251,20 +309,15 @@ int main(int argc, char **argv) {
         if (!effects[place])
             return 1;
     }
-    pthread_create(&player, NULL, play_hardware, NULL);
-    pthread_create(&owning, NULL, own, NULL);
-    for (place = 0; place < DRIVERS; place++)
-        pthread_create(&drivers[place].thread, NULL, drive, &drivers[place]);
+    if (once)
+        run_on_one_thread();
+    else
+        run_on_threads();
     for (place = 0; place < DRIVERS; place++) {
-        pthread_join(drivers[place].thread, NULL);
         early += drivers[place].early;
         check(smmuq_free(&drivers[place].sender.handle), "free");
-    }
-    set(&owner.ended, 1);
-    pthread_join(owning, NULL);
-    pthread_join(player, NULL);
-    for (place = 0; place < DRIVERS; place++)
         free(effects[place]);
+    }
     check(smmuq_free(&owner.forwarder.handle), "free");
     printf("restarts and late MSIs %s: told too early %" PRIu32 "\n", owner.restarts && hardware.again ? "between" : "missing", early);
     return early != 0;
