@@ -27,11 +27,14 @@ IsMachineOf vmid (Some machine) = (vmid < 2 ^ 16) × (machine ≡ record { 0 = v
 
 -- ---- what each call does to a unit or an engine
 
+abbrev pub EvictsPassing : (Tag → Bool) → ℕ → Object → Object → Status → Type 0
+EvictsPassing passes told = OfAnyEviction (HasEvictedAll passes told)
+
 abbrev pub EvictsKinds : ℕ → ℕ → Object → Object → Status → Type 0
 EvictsKinds kinds told = EvictsSaid (AreKindsOf kinds) (λ kinds. HasEvictedAll (is_of_kinds kinds) told)
 
 abbrev pub EvictsStream : ℕ → ℕ → Object → Object → Status → Type 0
-EvictsStream sid told = OfAnyEviction (HasEvictedAll (is_of_stream (record { 0 = sid })) told)
+EvictsStream sid told = EvictsPassing (is_of_stream (record { 0 = sid })) told
 
 abbrev pub EvictsMachine : ℕ → ℕ → Object → Object → Status → Type 0
 EvictsMachine vmid told = EvictsSaid (IsMachineOf vmid) (λ m. HasEvictedAll (is_of_machine m) told)

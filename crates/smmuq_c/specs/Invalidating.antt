@@ -7,8 +7,8 @@ use Rattle.smmuq_c.specs.declared.object.Object.{Object}
 use Rattle.smmuq_c.specs.declared.object.Object.TheVariants.{Unit as UnitOf, Engine as EngineOf}
 use Rattle.smmuq_c.specs.declared.status.Status.{Status}
 use Rattle.smmuq_c.specs.declared.status.Status.TheVariants.{Illegal, WrongHandle}
-use Rattle.smmuq_c.specs.Calls.{OfAnyUnit, OfAnyEviction}
-use Rattle.smmuq_c.specs.Evicting.{HasEvictedAll}
+use Rattle.smmuq_c.specs.Calls.{OfAnyUnit}
+use Rattle.smmuq_c.specs.Evicting.{EvictsPassing}
 use Rattle.smmuq_c.specs.Lists.{HasToldCovered}
 use Rattle.smmuq_c.specs.declared.listing.EntryWords.{EntryWords}
 
@@ -20,7 +20,7 @@ IsRefusedFor why other new status = (new ≡ other) × (status ≡ WrongHandle)
 
 -- The entries that legal words cover are gone, and their number is told.
 abbrev pub Invalidates : Result Command Ill → ℕ → Object → Object → Status → Type 0
-Invalidates (Ok command) told = OfAnyEviction (HasEvictedAll (covers command) told)
+Invalidates (Ok command) told = EvictsPassing (covers command) told
 Invalidates (Err ill) told = IsRefusedFor (Illegal ill)
 
 -- The entries that legal words cover are told, and stay.

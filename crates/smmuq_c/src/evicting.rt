@@ -1,7 +1,7 @@
 //! Evicting entries by their kinds, their stream, their virtual machine or their age, and the exports that do it.
 ghost use Rattle.std.specs.Prelude.{◌≡◌};
-ghost use Rattle.smmuq_c.specs.Calls.{HasCalled, OfAnyEviction};
-ghost use Rattle.smmuq_c.specs.Evicting.{IsMachineOf, HasEvictedAll, EvictsKinds, EvictsStream, EvictsMachine, EvictsOlder};
+ghost use Rattle.smmuq_c.specs.Calls.{HasCalled};
+ghost use Rattle.smmuq_c.specs.Evicting.{IsMachineOf, EvictsPassing, EvictsKinds, EvictsStream, EvictsMachine, EvictsOlder};
 ghost use Rattle.smmuq_c.specs.Kept.{IsKept, KeptUnlessDone};
 
 use crate::handle::Handle;
@@ -136,8 +136,7 @@ fn evict_older(object: &mut Object, born: u64, count: &mut usize) -> Status
 
 /// Evicts all entries of a unit or an engine whose tags pass a test, and tells how many they were.
 fn evict_passing<T: TagTest>(object: &mut Object, test: &T, count: &mut usize) -> Status
-    ensures called { OfAnyEviction (HasEvictedAll (T.passing test.now) count.new) object.old object.new
-        result }
+    ensures called { EvictsPassing (T.passing test.now) count.new object.old object.new result }
     ensures kept { IsKept result count.old count.new }
 {
     match object {

@@ -2,8 +2,8 @@
 ghost use Rattle.std.specs.Prelude.{◌≡◌};
 ghost use Rattle.cmdcodec.specs.Words.{decoding};
 ghost use Rattle.caches.specs.Covers.{covers};
-ghost use Rattle.smmuq_c.specs.Calls.{HasCalled, OfAnyEviction};
-ghost use Rattle.smmuq_c.specs.Evicting.{HasEvictedAll};
+ghost use Rattle.smmuq_c.specs.Calls.{HasCalled};
+ghost use Rattle.smmuq_c.specs.Evicting.{EvictsPassing};
 ghost use Rattle.smmuq_c.specs.Invalidating.{Invalidates};
 ghost use Rattle.smmuq_c.specs.Kept.{IsKept, KeptUnlessDone};
 
@@ -41,8 +41,7 @@ fn invalidate(object: &mut Object, raw: Raw, count: &mut usize) -> Status
 }
 
 fn invalidate_by(object: &mut Object, command: &Command, count: &mut usize) -> Status
-    ensures called { OfAnyEviction (HasEvictedAll (covers command.now) count.new) object.old object.new
-        result }
+    ensures called { EvictsPassing (covers command.now) count.new object.old object.new result }
     ensures kept { IsKept result count.old count.new }
 {
     match object {
