@@ -11,11 +11,7 @@ use Rattle.ring.specs.sender.Sending.{IsSent, IsGivenUp}
 use Rattle.detachment.specs.Commands.{Stream, has_ats, configuration_words, endpoint_words}
 use Rattle.detachment.specs.Order.{HasReserved, AreAppliedFrom, HasApplied, IsConfiguringIn, IsConfiguredIn, IsLeavingIn, HasLeftIn, IsDetachedIn}
 use Rattle.detachment.specs.Values.{ConfigurationValue, EndpointValue, DetachedValue, configuration_value, endpoint_value, detached_value, IsOwn, IsConfiguring, IsConfigured, IsLeaving, IsDetached}
-use Rattle.detachment.specs.Looking.{IsNext, HasComeAsFar, MaySend}
-use Rattle.detachment.specs.declared.next.Next.{Next}
-use Rattle.detachment.specs.declared.next.Next.TheVariants.{Endpoint, Nothing}
 use Rattle.detachment_tests.proofs.Streams.{stream, without_ats}
-use Rattle.ring.specs.sender.GoingOn.{WentOn}
 use Rattle.detachment.specs.Sending.{HasSentConfiguration, HasSentEndpoint, ConfigurationIsUnsent, EndpointIsUnsent}
 
 -- ---- lists with one element, or none
@@ -225,7 +221,7 @@ knowing ring run = record { ring = ring; number = 0; trail = []; history = run }
 abbrev receipt : ℕ → ReceiptValue
 receipt number = record { sender = 0; number = number }
 
-abbrev configuration_known : RingValue → Run → ConfigurationValue
+abbrev pub configuration_known : RingValue → Run → ConfigurationValue
 configuration_known ring run = record { stream = stream 5; configuration = receipt 1; sender = knowing ring run }
 
 abbrev endpoint_known : RingValue → Run → EndpointValue
@@ -269,29 +265,6 @@ own_leaving e is = is.own
 
 pub not_configured_without_ats : (ring : RingValue) (run : Run) → ¬ IsConfigured (configured_without_ats ring run)
 not_configured_without_ats ring run is = let no : false ≡ true = is.cached in absurd (cc)
-
--- ---- what is next
-
-pub nothing_is_not_next_with_ats : (ring : RingValue) (run : Run) (s : SenderValue) (d : DetachedValue) → ¬ IsNext (configuration_known ring run) s (Nothing d)
-nothing_is_not_next_with_ats ring run s d is = let no : true ≡ false = is.0 in absurd (cc)
-
-pub endpoint_is_not_next_without_ats : (ring : RingValue) (run : Run) (s : SenderValue) (c : ConfigurationValue) → ¬ IsNext (configured_without_ats ring run) s (Endpoint c)
-endpoint_is_not_next_without_ats ring run s c is = let no : false ≡ true = is.0 in absurd (cc)
-
-pub next_of_the_same_stream : (c configured : ConfigurationValue) (s : SenderValue) → IsNext c s (Endpoint configured) → configured ≡ record c { sender = s }
-next_of_the_same_stream c configured s is = is.1
-
-pub nothing_next_for_the_same_stream : (c : ConfigurationValue) (s : SenderValue) (d : DetachedValue) → IsNext c s (Nothing d) → d ≡ detached_value c.stream c.configuration None s
-nothing_next_for_the_same_stream c s d is = is.1
-
-pub next_is_configured : (c : ConfigurationValue) → HasComeAsFar (Endpoint c) → IsConfigured c
-next_is_configured c is = is
-
-pub next_is_detached : (d : DetachedValue) → HasComeAsFar (Nothing d) → IsDetached d
-next_is_detached d is = is
-
-pub next_may_be_sent : (c : ConfigurationValue) (s : SenderValue) → MaySend s (Endpoint c) → WentOn c.sender s
-next_may_be_sent c s may = may
 
 -- ---- what is sent
 
