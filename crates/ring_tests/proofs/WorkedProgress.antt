@@ -4,7 +4,7 @@ use Rattle.std.proofs.lemmas.List.{length-append}
 use Rattle.qindex.specs.declared.control.Control.{Control}
 use Rattle.ringcore.specs.declared.world.event.Who.TheVariants.{Consumer, Sender}
 use Rattle.ringcore.specs.declared.world.event.Half.{Half}
-use Rattle.ringcore.specs.declared.world.event.Event.TheVariants.{Look, Won, Write, Flip, Test, Read, Advance, Close, Acknowledge}
+use Rattle.ringcore.specs.declared.world.event.Event.TheVariants.{Look, Won, Lost, Write, Flip, Test, Read, Advance, Close, Acknowledge}
 use Rattle.ringcore.specs.world.Trails.{Run, trail_of, IsSettled}
 use Rattle.ringcore.specs.world.World.{tail, head, world}
 use Rattle.ringcore.specs.world.Allowed.{Ring, IsRun}
@@ -165,3 +165,7 @@ an_empty_ring_changes_by_its_close_alone law run is none taken = let few = law t
 
 pub a_lone_sender_loses_no_more_than_changes : AllLossesArePaidFor → (run : Run) → OnlyOf 1 run → IsRun two run → all_losses run ≤ changes run
 a_lone_sender_loses_no_more_than_changes law run of_one is = let few : all_losses run ≤ 1 * changes run = law two 1 run of_one is in omega (arith, few)
+
+-- Sender 1 lost an exchange to sender 0, and sender 0 the next one.
+pub losses_of_all_senders_count : all_losses ((Sender 0, Lost (x ∷ []) false empty) ∷ (Sender 1, Lost (x ∷ []) false empty) ∷ reserved) ≡ 2
+losses_of_all_senders_count = refl
