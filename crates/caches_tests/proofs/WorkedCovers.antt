@@ -5,7 +5,6 @@ use Rattle.cmdcodec.specs.declared.reach.Granule.TheVariants.{Kib4}
 use Rattle.cmdcodec.specs.declared.reach.PageRun.{PageRun}
 use Rattle.cmdcodec.specs.declared.reach.Reach.TheVariants.{Page, Range}
 use Rattle.caches.specs.declared.tag.Scope.TheVariants.{Global, Of}
-use Rattle.caches.specs.declared.tag.Tag.{Tag}
 use Rattle.caches.specs.declared.tag.Tag.TheVariants.{Ste, Cd, S1, S2, El2, Atc}
 use Rattle.caches.specs.Blocks.{block, aligned, holds, meets}
 use Rattle.caches.specs.Covers.{of_streams, descriptors, of_machines, stage1, stage2, el2, endpoints, is_of, reaches, is_for, covers}
@@ -239,7 +238,7 @@ by_address_another_space_is_spared = refl
 pub by_address_another_machine_is_spared : covers (TlbiNhVa 5 7 true 3 Page) (S1 6 Global 3 0) ≡ false
 by_address_another_machine_is_spared = refl
 
--- Two granules from page 2^40 - 1 on: virtual addresses go on behind 2^40 pages.
+-- Two pages from page 2^40 on: virtual addresses have more pages than intermediate ones.
 pub by_address_a_range_goes_on : covers (TlbiNhVa 5 7 true (2 ^ 40) (Range Kib4 1 0)) (S1 5 (Of 7) (2 ^ 40 + 1) 0) ≡ true
 by_address_a_range_goes_on = refl
 

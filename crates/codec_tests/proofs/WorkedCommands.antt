@@ -51,7 +51,8 @@ opcodes =
     op.PrefetchConfig ∷ op.PrefetchAddr ∷ op.CfgiSte ∷ op.CfgiSteRange ∷ op.CfgiCd ∷ op.CfgiCdAll
     ∷ op.TlbiNhAll ∷ op.TlbiNhAsid ∷ op.TlbiNhVa ∷ op.TlbiNhVaa
     ∷ op.TlbiEl2All ∷ op.TlbiEl2Asid ∷ op.TlbiEl2Va ∷ op.TlbiEl2Vaa
-    ∷ op.TlbiS12Vmall ∷ op.TlbiS2Ipa ∷ op.TlbiNsnhAll ∷ op.AtcInv ∷ op.PriResp ∷ op.Resume ∷ op.StallTerm ∷ op.CmdSync ∷ []
+    ∷ op.TlbiS12Vmall ∷ op.TlbiS2Ipa ∷ op.TlbiNsnhAll
+    ∷ op.AtcInv ∷ op.PriResp ∷ op.Resume ∷ op.StallTerm ∷ op.CmdSync ∷ []
 
 abbrev numbers : List ℕ
 numbers =
@@ -66,7 +67,8 @@ unfolding opcode_named
 numbers_name_their_opcodes = refl
 
 -- among them those of CMD_CFGI_VMS_PIDM and CMD_TLBI_EL3_ALL, which the profile lacks
-pub other_numbers_name_none : map opcode_named (0x00 ∷ 0x07 ∷ 0x18 ∷ 0x29 ∷ 0x47 ∷ []) ≡ None ∷ None ∷ None ∷ None ∷ None ∷ []
+pub other_numbers_name_none :
+    map opcode_named (0x00 ∷ 0x07 ∷ 0x18 ∷ 0x29 ∷ 0x47 ∷ []) ≡ None ∷ None ∷ None ∷ None ∷ None ∷ []
 unfolding opcode_named
 other_numbers_name_none = refl
 
@@ -81,11 +83,13 @@ pub another_word_of_a_sync_is_no_sync : is_sync (words 0x30 0x46) ≡ false
 another_word_of_a_sync_is_no_sync = refl
 
 -- the prefetches, PRI_RESP, RESUME and STALL_TERM
-pub five_commands_are_kept : map is_kept (0x01 ∷ 0x02 ∷ 0x41 ∷ 0x44 ∷ 0x45 ∷ []) ≡ true ∷ true ∷ true ∷ true ∷ true ∷ []
+pub five_commands_are_kept :
+    map is_kept (0x01 ∷ 0x02 ∷ 0x41 ∷ 0x44 ∷ 0x45 ∷ []) ≡ true ∷ true ∷ true ∷ true ∷ true ∷ []
 five_commands_are_kept = refl
 
 -- CFGI_STE, TLBI_NH_ASID, TLBI_S2_IPA, ATC_INV and CMD_SYNC
-pub no_invalidation_is_kept : map is_kept (0x03 ∷ 0x11 ∷ 0x2a ∷ 0x40 ∷ 0x46 ∷ []) ≡ false ∷ false ∷ false ∷ false ∷ false ∷ []
+pub no_invalidation_is_kept :
+    map is_kept (0x03 ∷ 0x11 ∷ 0x2a ∷ 0x40 ∷ 0x46 ∷ []) ≡ false ∷ false ∷ false ∷ false ∷ false ∷ []
 no_invalidation_is_kept = refl
 
 -- ---- What is illegal.
@@ -140,20 +144,24 @@ an_illegal_prefetch_is_not_kept is = let no : Some SecureStream ≡ None = is.1 
 
 pub configurations_are_encoded_so :
     map encoding (CfgiSte 5 true ∷ CfgiSteRange 32 4 ∷ CfgiCd 5 9 true ∷ CfgiCdAll 5 ∷ [])
-    ≡ words (0x03 + 5 * 2 ^ 32) 1 ∷ words (0x04 + 32 * 2 ^ 32) 4 ∷ words (0x9005 + 5 * 2 ^ 32) 1 ∷ words (0x06 + 5 * 2 ^ 32) 0 ∷ []
+    ≡ words (0x03 + 5 * 2 ^ 32) 1 ∷ words (0x04 + 32 * 2 ^ 32) 4
+    ∷ words (0x9005 + 5 * 2 ^ 32) 1 ∷ words (0x06 + 5 * 2 ^ 32) 0 ∷ []
 unfolding encoding
 configurations_are_encoded_so = refl
 
 pub whole_invalidations_are_encoded_so :
     map encoding (TlbiNhAll 5 ∷ TlbiNhAsid 5 7 ∷ TlbiEl2All ∷ TlbiEl2Asid 7 ∷ TlbiS12Vmall 5 ∷ TlbiNsnhAll ∷ [])
-    ≡ words (0x10 + 5 * 2 ^ 32) 0 ∷ words (0x11 + 5 * 2 ^ 32 + 7 * 2 ^ 48) 0 ∷ words 0x20 0 ∷ words (0x21 + 7 * 2 ^ 48) 0
+    ≡ words (0x10 + 5 * 2 ^ 32) 0 ∷ words (0x11 + 5 * 2 ^ 32 + 7 * 2 ^ 48) 0
+    ∷ words 0x20 0 ∷ words (0x21 + 7 * 2 ^ 48) 0
     ∷ words (0x28 + 5 * 2 ^ 32) 0 ∷ words 0x30 0 ∷ []
 unfolding encoding
 whole_invalidations_are_encoded_so = refl
 
 -- of the page at 0x3000, leaf alone
 pub invalidations_of_a_page_are_encoded_so :
-    map encoding (TlbiNhVa 5 7 true 3 Page ∷ TlbiNhVaa 5 true 3 Page ∷ TlbiEl2Va 7 true 3 Page ∷ TlbiEl2Vaa true 3 Page ∷ TlbiS2Ipa 5 true 3 Page ∷ [])
+    map encoding
+        (TlbiNhVa 5 7 true 3 Page ∷ TlbiNhVaa 5 true 3 Page ∷ TlbiEl2Va 7 true 3 Page
+        ∷ TlbiEl2Vaa true 3 Page ∷ TlbiS2Ipa 5 true 3 Page ∷ [])
     ≡ words (0x12 + 5 * 2 ^ 32 + 7 * 2 ^ 48) 0x3001 ∷ words (0x13 + 5 * 2 ^ 32) 0x3001 ∷ words (0x22 + 7 * 2 ^ 48) 0x3001
     ∷ words 0x23 0x3001 ∷ words (0x2a + 5 * 2 ^ 32) 0x3001 ∷ []
 unfolding encoding
@@ -285,7 +293,7 @@ a_body_of_one = record { some = omega arith; few = omega arith; no_sync = refl }
 pub a_body_has_a_command : ¬ IsBody []
 a_body_has_a_command is = absurd (omega (arith, is.some))
 
--- A queue entry more is its CMD_SYNC.
+-- With its CMD_SYNC a batch has at most 64 commands.
 pub a_body_has_at_most_63 : (commands : List Raw) → length commands ≡ 64 → ¬ IsBody commands
 a_body_has_at_most_63 commands many is = absurd (omega (arith, many, is.few))
 

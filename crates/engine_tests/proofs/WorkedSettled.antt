@@ -1,6 +1,6 @@
 -- What single commands that were taken have covered, and how they are counted: CFGI_STE of stream 5, a CMD_SYNC, and words
 -- that were replaced, since no command has their opcode.
-use Rattle.std.proofs.Common.{◌≡◌, ℕ, true, false, List, [], ◌∷◌, None, refl, ap, ◌∙◌}
+use Rattle.std.proofs.Common.{◌≡◌, true, false, List, [], ◌∷◌, None, refl, ap, ◌∙◌}
 use Rattle.std.specs.Prelude.{Result, Ok}
 use Rattle.cmdcodec.proofs.SpellingLemmas.{only}
 use Rattle.cmdcodec.specs.declared.command.Command.{Command}
@@ -28,7 +28,12 @@ use Rattle.ringcore_tests.proofs.WorkedCases.{x, shows}
 
 pub a_command_of_the_stream_has_covered : HasCovered (taken_as x) (Ste 5)
 unfolding opcode_named
-a_command_of_the_stream_has_covered = record { applied = refl; command = CfgiSte 5 true; spelled = ((refl, refl, refl), refl); covered = refl }
+a_command_of_the_stream_has_covered = record {
+  applied = refl;
+  command = CfgiSte 5 true;
+  spelled = ((refl, refl, refl), refl);
+  covered = refl;
+}
 
 pub a_replaced_command_has_covered_nothing : ¬ HasCovered (record { raw = x; outcome = Replaced }) (Ste 5)
 a_replaced_command_has_covered_nothing has = let no : Replaced ≡ Applied = has.applied in absurd (cc)
