@@ -1,4 +1,4 @@
--- Which tags single commands cover: each example is one that only one part of the definition decides.
+-- Which tags single commands cover: each example is one that a single part of the definition decides.
 use Rattle.std.proofs.Common.{◌≡◌, ℕ, ◌+◌, ◌^◌, Bool, true, false, Some, None, refl}
 use Rattle.cmdcodec.specs.declared.command.Command.TheVariants.{AtcInv, CfgiCd, CfgiCdAll, CfgiSte, CfgiSteRange, CmdSync, TlbiEl2All, TlbiEl2Asid, TlbiEl2Va, TlbiEl2Vaa, TlbiNhAll, TlbiNhAsid, TlbiNhVa, TlbiNhVaa, TlbiNsnhAll, TlbiS12Vmall, TlbiS2Ipa}
 use Rattle.cmdcodec.specs.declared.reach.Granule.TheVariants.{Kib4}
@@ -107,7 +107,8 @@ module _ (sid ssid vmid page span : ℕ) where
   pub a_machine_has_stage_2 : of_machines (λ v. true) (S2 vmid page span) ≡ true
   a_machine_has_stage_2 = refl
 
-  pub a_machine_has_nothing_of_the_hypervisor : of_machines (λ v. true) (El2 Global page span) ≡ false
+  pub a_machine_has_nothing_of_the_hypervisor :
+      of_machines (λ v. true) (El2 Global page span) ≡ false
   a_machine_has_nothing_of_the_hypervisor = refl
 
   pub stage_1_is_stage_1 : stage1 (λ v scope pages. true) (S1 vmid Global page span) ≡ true
@@ -138,16 +139,19 @@ module _ (sid ssid vmid page span : ℕ) where
 abbrev has_last : PageRun → Bool
 has_last pages = holds pages 1023
 
-pub a_whole_block_of_stage_1_counts : stage1 (λ v scope pages. has_last pages) (S1 5 (Of 7) 512 9) ≡ true
+pub a_whole_block_of_stage_1_counts :
+    stage1 (λ v scope pages. has_last pages) (S1 5 (Of 7) 512 9) ≡ true
 a_whole_block_of_stage_1_counts = refl
 
 pub a_whole_block_of_stage_2_counts : stage2 (λ v pages. has_last pages) (S2 5 512 9) ≡ true
 a_whole_block_of_stage_2_counts = refl
 
-pub a_whole_block_of_the_hypervisor_counts : el2 (λ scope pages. has_last pages) (El2 (Of 7) 512 9) ≡ true
+pub a_whole_block_of_the_hypervisor_counts :
+    el2 (λ scope pages. has_last pages) (El2 (Of 7) 512 9) ≡ true
 a_whole_block_of_the_hypervisor_counts = refl
 
-pub a_whole_block_of_an_endpoint_counts : endpoints (λ s ss pages. has_last pages) (Atc 5 None 512 9) ≡ true
+pub a_whole_block_of_an_endpoint_counts :
+    endpoints (λ s ss pages. has_last pages) (Atc 5 None 512 9) ≡ true
 a_whole_block_of_an_endpoint_counts = refl
 
 -- ---- CFGI_STE, CFGI_STE_RANGE, CFGI_CD and CFGI_CD_ALL of stream 5
@@ -223,10 +227,12 @@ by_asid_another_machine_is_spared = refl
 pub by_address_a_page_is_covered : covers (TlbiNhVa 5 7 true 3 Page) (S1 5 (Of 7) 3 0) ≡ true
 by_address_a_page_is_covered = refl
 
-pub by_address_a_global_entry_is_covered : covers (TlbiNhVa 5 7 true 3 Page) (S1 5 Global 3 0) ≡ true
+pub by_address_a_global_entry_is_covered :
+    covers (TlbiNhVa 5 7 true 3 Page) (S1 5 Global 3 0) ≡ true
 by_address_a_global_entry_is_covered = refl
 
-pub by_address_the_block_is_covered : covers (TlbiNhVa 5 7 true 1023 Page) (S1 5 (Of 7) 512 9) ≡ true
+pub by_address_the_block_is_covered :
+    covers (TlbiNhVa 5 7 true 1023 Page) (S1 5 (Of 7) 512 9) ≡ true
 by_address_the_block_is_covered = refl
 
 pub by_address_another_page_is_spared : covers (TlbiNhVa 5 7 true 3 Page) (S1 5 (Of 7) 4 0) ≡ false
@@ -235,11 +241,13 @@ by_address_another_page_is_spared = refl
 pub by_address_another_space_is_spared : covers (TlbiNhVa 5 7 true 3 Page) (S1 5 (Of 8) 3 0) ≡ false
 by_address_another_space_is_spared = refl
 
-pub by_address_another_machine_is_spared : covers (TlbiNhVa 5 7 true 3 Page) (S1 6 Global 3 0) ≡ false
+pub by_address_another_machine_is_spared :
+    covers (TlbiNhVa 5 7 true 3 Page) (S1 6 Global 3 0) ≡ false
 by_address_another_machine_is_spared = refl
 
 -- Two pages from page 2^40 on: virtual addresses have more pages than intermediate ones.
-pub by_address_a_range_goes_on : covers (TlbiNhVa 5 7 true (2 ^ 40) (Range Kib4 1 0)) (S1 5 (Of 7) (2 ^ 40 + 1) 0) ≡ true
+pub by_address_a_range_goes_on :
+    covers (TlbiNhVa 5 7 true (2 ^ 40) (Range Kib4 1 0)) (S1 5 (Of 7) (2 ^ 40 + 1) 0) ≡ true
 by_address_a_range_goes_on = refl
 
 pub in_any_space_each_space_is_covered : covers (TlbiNhVaa 5 true 3 Page) (S1 5 (Of 8) 3 0) ≡ true
@@ -248,7 +256,8 @@ in_any_space_each_space_is_covered = refl
 pub in_any_space_another_page_is_spared : covers (TlbiNhVaa 5 true 3 Page) (S1 5 (Of 7) 4 0) ≡ false
 in_any_space_another_page_is_spared = refl
 
-pub in_any_space_another_machine_is_spared : covers (TlbiNhVaa 5 true 3 Page) (S1 6 (Of 7) 3 0) ≡ false
+pub in_any_space_another_machine_is_spared :
+    covers (TlbiNhVaa 5 true 3 Page) (S1 6 (Of 7) 3 0) ≡ false
 in_any_space_another_machine_is_spared = refl
 
 -- ---- The hypervisor
@@ -265,19 +274,23 @@ the_hypervisors_space_is_covered = refl
 pub the_hypervisors_global_entries_are_spared : covers (TlbiEl2Asid 7) (El2 Global 3 0) ≡ false
 the_hypervisors_global_entries_are_spared = refl
 
-pub the_hypervisors_global_page_is_covered : covers (TlbiEl2Va 7 true 3 Page) (El2 Global 3 0) ≡ true
+pub the_hypervisors_global_page_is_covered :
+    covers (TlbiEl2Va 7 true 3 Page) (El2 Global 3 0) ≡ true
 the_hypervisors_global_page_is_covered = refl
 
-pub the_hypervisors_other_space_is_spared : covers (TlbiEl2Va 7 true 3 Page) (El2 (Of 8) 3 0) ≡ false
+pub the_hypervisors_other_space_is_spared :
+    covers (TlbiEl2Va 7 true 3 Page) (El2 (Of 8) 3 0) ≡ false
 the_hypervisors_other_space_is_spared = refl
 
 pub the_hypervisors_other_page_is_spared : covers (TlbiEl2Va 7 true 3 Page) (El2 (Of 7) 4 0) ≡ false
 the_hypervisors_other_page_is_spared = refl
 
-pub the_hypervisors_page_of_any_space_is_covered : covers (TlbiEl2Vaa true 3 Page) (El2 (Of 8) 3 0) ≡ true
+pub the_hypervisors_page_of_any_space_is_covered :
+    covers (TlbiEl2Vaa true 3 Page) (El2 (Of 8) 3 0) ≡ true
 the_hypervisors_page_of_any_space_is_covered = refl
 
-pub the_hypervisors_other_page_of_any_space_is_spared : covers (TlbiEl2Vaa true 3 Page) (El2 (Of 8) 4 0) ≡ false
+pub the_hypervisors_other_page_of_any_space_is_spared :
+    covers (TlbiEl2Vaa true 3 Page) (El2 (Of 8) 4 0) ≡ false
 the_hypervisors_other_page_of_any_space_is_spared = refl
 
 -- ---- Both stages, and stage 2
@@ -297,7 +310,8 @@ an_intermediate_page_is_covered = refl
 pub an_intermediate_page_spares_stage_1 : covers (TlbiS2Ipa 5 true 3 Page) (S1 5 (Of 7) 3 0) ≡ false
 an_intermediate_page_spares_stage_1 = refl
 
-pub an_intermediate_page_of_another_machine_is_spared : covers (TlbiS2Ipa 5 true 3 Page) (S2 6 3 0) ≡ false
+pub an_intermediate_page_of_another_machine_is_spared :
+    covers (TlbiS2Ipa 5 true 3 Page) (S2 6 3 0) ≡ false
 an_intermediate_page_of_another_machine_is_spared = refl
 
 pub another_intermediate_page_is_spared : covers (TlbiS2Ipa 5 true 3 Page) (S2 5 4 0) ≡ false
@@ -314,13 +328,16 @@ all_machines_spare_the_hypervisor = refl
 pub an_endpoints_pages_are_covered : covers (AtcInv 5 true 9 false 3 8) (Atc 5 (Some 9) 15 0) ≡ true
 an_endpoints_pages_are_covered = refl
 
-pub an_endpoints_pages_begin_at_a_multiple : covers (AtcInv 5 true 9 false 3 13) (Atc 5 (Some 9) 8 0) ≡ true
+pub an_endpoints_pages_begin_at_a_multiple :
+    covers (AtcInv 5 true 9 false 3 13) (Atc 5 (Some 9) 8 0) ≡ true
 an_endpoints_pages_begin_at_a_multiple = refl
 
-pub an_endpoints_other_pages_are_spared : covers (AtcInv 5 true 9 false 3 8) (Atc 5 (Some 9) 16 0) ≡ false
+pub an_endpoints_other_pages_are_spared :
+    covers (AtcInv 5 true 9 false 3 8) (Atc 5 (Some 9) 16 0) ≡ false
 an_endpoints_other_pages_are_spared = refl
 
-pub an_endpoints_other_substream_is_spared : covers (AtcInv 5 true 9 false 3 8) (Atc 5 (Some 8) 8 0) ≡ false
+pub an_endpoints_other_substream_is_spared :
+    covers (AtcInv 5 true 9 false 3 8) (Atc 5 (Some 8) 8 0) ≡ false
 an_endpoints_other_substream_is_spared = refl
 
 pub another_endpoint_is_spared : covers (AtcInv 5 true 9 false 3 8) (Atc 6 (Some 9) 8 0) ≡ false

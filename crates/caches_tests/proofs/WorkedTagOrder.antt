@@ -1,4 +1,5 @@
--- How single tags are ordered: tags that differ in one part alone are two tags, and the order is that of their parts.
+-- How single tags are ordered: tags that differ in one part alone are two tags, and the order is that
+-- of their parts.
 use Rattle.std.proofs.Common.{◌≡◌, [], ◌∷◌, Some, None, refl}
 use Rattle.std.specs.declared.cmp.Ordering.TheVariants.{Less, Equal, Greater}
 use Rattle.caches.specs.declared.tag.Scope.TheVariants.{Global, Of}
@@ -26,7 +27,8 @@ none_is_before_substream_0 = refl
 pub each_substream_has_its_number : substream_number (Some 9) ≡ 10
 each_substream_has_its_number = refl
 
-pub a_page_is_before_the_block_that_begins_with_it : tag_cmp (S1 5 (Of 7) 512 0) (S1 5 (Of 7) 512 9) ≡ Less
+pub a_page_is_before_the_block_that_begins_with_it :
+    tag_cmp (S1 5 (Of 7) 512 0) (S1 5 (Of 7) 512 9) ≡ Less
 a_page_is_before_the_block_that_begins_with_it = refl
 
 pub a_block_of_stage_2_has_its_span : tag_cmp (S2 5 512 0) (S2 5 512 9) ≡ Less

@@ -1,4 +1,5 @@
--- What the two words of single commands say: the numbers and places are those of the standard's chapter on commands.
+-- What the two words of single commands say: the numbers and the bits are those of the standard's
+-- chapter on commands.
 use Rattle.std.proofs.Common.{◌≡◌, ℕ, ◌+◌, ◌-◌, ◌*◌, ◌^◌, true, false, List, [], ◌∷◌, length, Some, None, map, refl, arith}
 use Rattle.cmdcodec.specs.declared.command.Command.TheVariants.{AtcInv, CfgiCd, CfgiCdAll, CfgiSte, CfgiSteRange, CmdSync, Kept, TlbiEl2All, TlbiEl2Asid, TlbiEl2Va, TlbiEl2Vaa, TlbiNhAll, TlbiNhAsid, TlbiNhVa, TlbiNhVaa, TlbiNsnhAll, TlbiS12Vmall, TlbiS2Ipa}
 use Rattle.cmdcodec.specs.declared.ill.Ill.TheVariants.{UnknownOpcode, SecureStream, ReservedSignal, OversizedSpan}
@@ -128,8 +129,9 @@ unfolding opcode_named
 bits_in_no_field_are_legal = refl
 
 pub prefetches_configurations_and_endpoints_have_ssec : map has_secure_bit numbers ≡
-    true ∷ true ∷ true ∷ true ∷ true ∷ true ∷ false ∷ false ∷ false ∷ false ∷ false ∷ false ∷ false ∷ false
-    ∷ false ∷ false ∷ false ∷ true ∷ false ∷ false ∷ false ∷ false ∷ []
+    true ∷ true ∷ true ∷ true ∷ true ∷ true ∷ false ∷ false ∷ false ∷ false
+    ∷ false ∷ false ∷ false ∷ false ∷ false ∷ false ∷ false
+    ∷ true ∷ false ∷ false ∷ false ∷ false ∷ []
 prefetches_configurations_and_endpoints_have_ssec = refl
 
 pub a_sync_is_not_kept : ¬ IsKept (words 0x46 0)
@@ -150,7 +152,9 @@ unfolding encoding
 configurations_are_encoded_so = refl
 
 pub whole_invalidations_are_encoded_so :
-    map encoding (TlbiNhAll 5 ∷ TlbiNhAsid 5 7 ∷ TlbiEl2All ∷ TlbiEl2Asid 7 ∷ TlbiS12Vmall 5 ∷ TlbiNsnhAll ∷ [])
+    map encoding
+    (TlbiNhAll 5 ∷ TlbiNhAsid 5 7 ∷ TlbiEl2All ∷ TlbiEl2Asid 7 ∷ TlbiS12Vmall 5
+    ∷ TlbiNsnhAll ∷ [])
     ≡ words (0x10 + 5 * 2 ^ 32) 0 ∷ words (0x11 + 5 * 2 ^ 32 + 7 * 2 ^ 48) 0
     ∷ words 0x20 0 ∷ words (0x21 + 7 * 2 ^ 48) 0
     ∷ words (0x28 + 5 * 2 ^ 32) 0 ∷ words 0x30 0 ∷ []
@@ -160,16 +164,17 @@ whole_invalidations_are_encoded_so = refl
 -- of the page at 0x3000, leaf alone
 pub invalidations_of_a_page_are_encoded_so :
     map encoding
-        (TlbiNhVa 5 7 true 3 Page ∷ TlbiNhVaa 5 true 3 Page ∷ TlbiEl2Va 7 true 3 Page
-        ∷ TlbiEl2Vaa true 3 Page ∷ TlbiS2Ipa 5 true 3 Page ∷ [])
-    ≡ words (0x12 + 5 * 2 ^ 32 + 7 * 2 ^ 48) 0x3001 ∷ words (0x13 + 5 * 2 ^ 32) 0x3001 ∷ words (0x22 + 7 * 2 ^ 48) 0x3001
-    ∷ words 0x23 0x3001 ∷ words (0x2a + 5 * 2 ^ 32) 0x3001 ∷ []
+    (TlbiNhVa 5 7 true 3 Page ∷ TlbiNhVaa 5 true 3 Page ∷ TlbiEl2Va 7 true 3 Page
+    ∷ TlbiEl2Vaa true 3 Page ∷ TlbiS2Ipa 5 true 3 Page ∷ [])
+    ≡ words (0x12 + 5 * 2 ^ 32 + 7 * 2 ^ 48) 0x3001 ∷ words (0x13 + 5 * 2 ^ 32) 0x3001
+    ∷ words (0x22 + 7 * 2 ^ 48) 0x3001 ∷ words 0x23 0x3001 ∷ words (0x2a + 5 * 2 ^ 32) 0x3001 ∷ []
 unfolding encoding
 invalidations_of_a_page_are_encoded_so = refl
 
 -- of 2 * 2^3 granules of 16 KiB from 0x4000 on: NUM is 1 and SCALE 3
 pub invalidations_of_a_range_are_encoded_so :
-    map encoding (TlbiNhVa 5 7 false 4 (Range Kib16 1 3) ∷ TlbiS2Ipa 5 false 4 (Range Kib16 1 3) ∷ [])
+    map encoding
+    (TlbiNhVa 5 7 false 4 (Range Kib16 1 3) ∷ TlbiS2Ipa 5 false 4 (Range Kib16 1 3) ∷ [])
     ≡ words (0x301012 + 5 * 2 ^ 32 + 7 * 2 ^ 48) 0x4800 ∷ words (0x30102a + 5 * 2 ^ 32) 0x4800 ∷ []
 unfolding encoding
 invalidations_of_a_range_are_encoded_so = refl
@@ -189,15 +194,18 @@ a_granule_is_in_bits_11_and_10 = refl
 pub granules_are_numbered_by_size : map granule_number (Kib4 ∷ Kib16 ∷ Kib64 ∷ []) ≡ 1 ∷ 2 ∷ 3 ∷ []
 granules_are_numbered_by_size = refl
 
--- of 2^3 pages at 0x8000 of an endpoint: for substream 9, for each substream, and for what has none
+-- of 2^3 pages at 0x8000 of an endpoint: for substream 9, for each substream, and with no SSV for all
 pub endpoints_are_encoded_so :
-    map encoding (AtcInv 5 true 9 false 3 8 ∷ AtcInv 5 true 0 true 3 8 ∷ AtcInv 5 false 0 false 3 8 ∷ [])
-    ≡ words (0x9840 + 5 * 2 ^ 32) 0x8003 ∷ words (0xa40 + 5 * 2 ^ 32) 0x8003 ∷ words (0x40 + 5 * 2 ^ 32) 0x8003 ∷ []
+    map encoding
+    (AtcInv 5 true 9 false 3 8 ∷ AtcInv 5 true 0 true 3 8 ∷ AtcInv 5 false 0 false 3 8 ∷ [])
+    ≡ words (0x9840 + 5 * 2 ^ 32) 0x8003 ∷ words (0xa40 + 5 * 2 ^ 32) 0x8003
+    ∷ words (0x40 + 5 * 2 ^ 32) 0x8003 ∷ []
 unfolding encoding
 endpoints_are_encoded_so = refl
 
 -- MSIDATA 7 to 0x4000000c, Outer Shareable, Normal memory written back
-pub syncs_are_encoded_so : encoding (CmdSync 1 2 15 7 0x10000003) ≡ words (0xf801046 + 7 * 2 ^ 32) 0x4000000c
+pub syncs_are_encoded_so :
+    encoding (CmdSync 1 2 15 7 0x10000003) ≡ words (0xf801046 + 7 * 2 ^ 32) 0x4000000c
 unfolding encoding
 syncs_are_encoded_so = refl
 
@@ -206,7 +214,8 @@ unfolding encoding
 kept_words_are_encoded_so = refl
 
 -- Sender 3 awaits number 7 in its cell, at 0x4000000c.
-pub a_closing_sync_writes_its_number : encoding (closing_sync 3 7) ≡ words (0x1046 + 7 * 2 ^ 32) 0x4000000c
+pub a_closing_sync_writes_its_number :
+    encoding (closing_sync 3 7) ≡ words (0x1046 + 7 * 2 ^ 32) 0x4000000c
 unfolding encoding
 a_closing_sync_writes_its_number = refl
 
@@ -219,13 +228,17 @@ pub words_spell_their_command : Spells by_asid (TlbiNhAsid 5 7)
 words_spell_their_command = ((refl, refl, refl), tt)
 
 pub another_machine_is_not_spelled : ¬ Spells by_asid (TlbiNhAsid 6 7)
-another_machine_is_not_spelled spells = let same : 5 ≡ 6 = spells.0.1 in absurd (omega (arith, same))
+another_machine_is_not_spelled spells =
+    let same : 5 ≡ 6 = spells.0.1 in
+    absurd (omega (arith, same))
 
 pub another_asid_is_not_spelled : ¬ Spells by_asid (TlbiNhAsid 5 8)
 another_asid_is_not_spelled spells = let same : 7 ≡ 8 = spells.0.2 in absurd (omega (arith, same))
 
 pub another_opcode_is_not_spelled : ¬ Spells by_asid (TlbiNhAll 5)
-another_opcode_is_not_spelled spells = let same : 0x11 ≡ 0x10 = spells.0.0 in absurd (omega (arith, same))
+another_opcode_is_not_spelled spells =
+    let same : 0x11 ≡ 0x10 = spells.0.0 in
+    absurd (omega (arith, same))
 
 pub another_leaf_is_not_spelled : ¬ Spells (words (0x03 + 5 * 2 ^ 32) 0) (CfgiSte 5 true)
 another_leaf_is_not_spelled spells = let same : 0 ≡ 1 = spells.1 in absurd (omega (arith, same))
@@ -234,16 +247,21 @@ pub another_stream_is_not_spelled : ¬ Spells (words (0x03 + 6 * 2 ^ 32) 1) (Cfg
 another_stream_is_not_spelled spells = let same : 6 ≡ 5 = spells.0.2 in absurd (omega (arith, same))
 
 pub another_range_of_streams_is_not_spelled : ¬ Spells (words 0x04 31) (CfgiSteRange 0 4)
-another_range_of_streams_is_not_spelled spells = let same : 31 ≡ 4 = spells.1 in absurd (omega (arith, same))
+another_range_of_streams_is_not_spelled spells =
+    let same : 31 ≡ 4 = spells.1 in
+    absurd (omega (arith, same))
 
 pub another_substream_is_not_spelled : ¬ Spells (words (0x9005 + 5 * 2 ^ 32) 1) (CfgiCd 5 8 true)
-another_substream_is_not_spelled spells = let same : 9 ≡ 8 = spells.0.2 in absurd (omega (arith, same))
+another_substream_is_not_spelled spells =
+    let same : 9 ≡ 8 = spells.0.2 in
+    absurd (omega (arith, same))
 
 pub another_page_is_not_spelled : ¬ Spells (words 0x12 0x3000) (TlbiNhVa 0 0 false 4 Page)
 another_page_is_not_spelled spells = let same : 3 ≡ 4 = spells.1.2 in absurd (omega (arith, same))
 
 -- Intermediate addresses have 52 bits.
-pub bits_above_an_intermediate_address_are_free : Spells (words 0x2a (0x3000 + 2 ^ 52)) (TlbiS2Ipa 0 false 3 Page)
+pub bits_above_an_intermediate_address_are_free :
+    Spells (words 0x2a (0x3000 + 2 ^ 52)) (TlbiS2Ipa 0 false 3 Page)
 bits_above_an_intermediate_address_are_free = ((refl, refl, tt), (refl, refl, refl))
 
 pub another_global_is_not_spelled : ¬ Spells (words 0x840 0) (AtcInv 0 true 0 true 0 0)
@@ -252,11 +270,15 @@ another_global_is_not_spelled spells = let same : 0 ≡ 1 = spells.0.2 in absurd
 pub another_ssv_is_not_spelled : ¬ Spells (words 0x40 0) (AtcInv 0 true 0 false 0 0)
 another_ssv_is_not_spelled spells = let same : 0 ≡ 1 = spells.0.3 in absurd (omega (arith, same))
 
-pub another_number_is_not_spelled : ¬ Spells (words (0x1046 + 7 * 2 ^ 32) 0x4000000c) (CmdSync 1 0 0 8 0x10000003)
+pub another_number_is_not_spelled :
+    ¬ Spells (words (0x1046 + 7 * 2 ^ 32) 0x4000000c) (CmdSync 1 0 0 8 0x10000003)
 another_number_is_not_spelled spells = let same : 7 ≡ 8 = spells.0.5 in absurd (omega (arith, same))
 
-pub another_cell_is_not_spelled : ¬ Spells (words (0x1046 + 7 * 2 ^ 32) 0x4000000c) (CmdSync 1 0 0 7 0x10000002)
-another_cell_is_not_spelled spells = let same : 0x10000003 ≡ 0x10000002 = spells.1 in absurd (omega (arith, same))
+pub another_cell_is_not_spelled :
+    ¬ Spells (words (0x1046 + 7 * 2 ^ 32) 0x4000000c) (CmdSync 1 0 0 7 0x10000002)
+another_cell_is_not_spelled spells =
+    let same : 0x10000003 ≡ 0x10000002 = spells.1 in
+    absurd (omega (arith, same))
 
 pub kept_words_are_those_of_a_kept_command : ¬ Spells (words 0x46 0) (Kept (words 0x46 0))
 kept_words_are_those_of_a_kept_command spells = a_sync_is_not_kept spells.0.1
@@ -282,7 +304,8 @@ a_page_is_a_run_of_one = refl
 pub a_range_is_a_run_of_granules : run_from 100 (Range Kib64 1 2) (2 ^ 52) ≡ run 96 224
 a_range_is_a_run_of_granules = refl
 
-pub a_range_ends_with_the_addresses : run_from (2 ^ 40 - 1) (Range Kib4 31 0) (2 ^ 40) ≡ run (2 ^ 40 - 1) (2 ^ 40)
+pub a_range_ends_with_the_addresses :
+    run_from (2 ^ 40 - 1) (Range Kib4 31 0) (2 ^ 40) ≡ run (2 ^ 40 - 1) (2 ^ 40)
 a_range_ends_with_the_addresses = refl
 
 -- ---- What a batch holds before its CMD_SYNC.

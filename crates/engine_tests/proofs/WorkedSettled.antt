@@ -1,5 +1,5 @@
--- What single commands that were taken have covered, and how they are counted: CFGI_STE of stream 5, a CMD_SYNC, and words
--- that were replaced, since no command has their opcode.
+-- What single commands that were taken have covered, and how they are counted: CFGI_STE of stream 5, a
+-- CMD_SYNC, and words that were replaced, since no command has their opcode.
 use Rattle.std.proofs.Common.{◌≡◌, true, false, List, [], ◌∷◌, None, refl, ap, ◌∙◌}
 use Rattle.std.specs.Prelude.{Result, Ok}
 use Rattle.cmdcodec.proofs.SpellingLemmas.{only}
@@ -35,8 +35,10 @@ a_command_of_the_stream_has_covered = record {
   covered = refl;
 }
 
-pub a_replaced_command_has_covered_nothing : ¬ HasCovered (record { raw = x; outcome = Replaced }) (Ste 5)
-a_replaced_command_has_covered_nothing has = let no : Replaced ≡ Applied = has.applied in absurd (cc)
+pub a_replaced_command_has_covered_nothing :
+    ¬ HasCovered (record { raw = x; outcome = Replaced }) (Ste 5)
+a_replaced_command_has_covered_nothing has =
+    let no : Replaced ≡ Applied = has.applied in absurd (cc)
 
 abbrev well : Command → Result Command Ill
 well command = Ok command
@@ -48,7 +50,8 @@ same_command a b is = cc
 pub a_command_of_another_stream_has_not : ¬ HasCovered (taken_as x) (Ste 6)
 unfolding opcode_named decoding
 a_command_of_another_stream_has_not has =
-    let same : CfgiSte 5 true ≡ has.command = same_command (CfgiSte 5 true) has.command (only x has.command has.spelled) in
+    let is : well (CfgiSte 5 true) ≡ well has.command = only x has.command has.spelled in
+    let same : CfgiSte 5 true ≡ has.command = same_command (CfgiSte 5 true) has.command is in
     let no : false ≡ true = ap (λ (c : Command). covers c (Ste 6)) same ∙ has.covered in absurd (cc)
 
 -- ---- What is counted.
@@ -85,10 +88,11 @@ what_is_applied_is_applied = refl
 pub what_is_replaced_is_not_applied : is_applied Replaced ≡ false
 what_is_replaced_is_not_applied = refl
 
-pub what_is_replaced_is_taken_too : taken (record { applied = 2; replaced = 1; syncs = 1; removed = 4 }) ≡ 3
+pub what_is_replaced_is_taken_too :
+    taken (record { applied = 2; replaced = 1; syncs = 1; removed = 4 }) ≡ 3
 what_is_replaced_is_taken_too = refl
 
--- ---- What a run leaves in the control word of a ring of two slots: sender 0 has reserved a command.
+-- ---- What a run leaves in the control word of a ring of two slots, where sender 0 has reserved.
 
 abbrev reserved : Run
 reserved = (Sender 0, Won (x ∷ []) None) ∷ (Sender 0, Look (shows 1 0 0 false)) ∷ []
