@@ -259,6 +259,43 @@ another_substream_is_not_spelled spells =
 pub another_page_is_not_spelled : ¬ Spells (words 0x12 0x3000) (TlbiNhVa 0 0 false 4 Page)
 another_page_is_not_spelled spells = let same : 3 ≡ 4 = spells.1.2 in absurd (omega (arith, same))
 
+-- the page at 0x3000 of the virtual machine 5 and the address space 7
+abbrev by_page : Raw
+by_page = words (0x12 + 5 * 2 ^ 32 + 7 * 2 ^ 48) 0x3000
+
+pub a_page_is_spelled : Spells by_page (TlbiNhVa 5 7 false 3 Page)
+a_page_is_spelled = ((refl, refl, refl, tt), (refl, refl, refl))
+
+pub a_page_of_another_machine_is_not_spelled : ¬ Spells by_page (TlbiNhVa 6 7 false 3 Page)
+a_page_of_another_machine_is_not_spelled spells =
+    let same : 5 ≡ 6 = spells.0.1 in
+    absurd (omega (arith, same))
+
+pub a_page_of_another_asid_is_not_spelled : ¬ Spells by_page (TlbiNhVa 5 8 false 3 Page)
+a_page_of_another_asid_is_not_spelled spells =
+    let same : 7 ≡ 8 = spells.0.2 in
+    absurd (omega (arith, same))
+
+pub all_of_another_machine_is_not_spelled : ¬ Spells (words (0x28 + 5 * 2 ^ 32) 0) (TlbiS12Vmall 6)
+all_of_another_machine_is_not_spelled spells =
+    let same : 5 ≡ 6 = spells.0.1 in
+    absurd (omega (arith, same))
+
+abbrev by_intermediate_page : Raw
+by_intermediate_page = words (0x2a + 5 * 2 ^ 32) 0x3000
+
+pub an_intermediate_page_of_another_machine_is_not_spelled :
+    ¬ Spells by_intermediate_page (TlbiS2Ipa 6 false 3 Page)
+an_intermediate_page_of_another_machine_is_not_spelled spells =
+    let same : 5 ≡ 6 = spells.0.1 in
+    absurd (omega (arith, same))
+
+pub another_intermediate_page_is_not_spelled :
+    ¬ Spells by_intermediate_page (TlbiS2Ipa 5 false 4 Page)
+another_intermediate_page_is_not_spelled spells =
+    let same : 3 ≡ 4 = spells.1.2 in
+    absurd (omega (arith, same))
+
 -- Intermediate addresses have 52 bits.
 pub bits_above_an_intermediate_address_are_free :
     Spells (words 0x2a (0x3000 + 2 ^ 52)) (TlbiS2Ipa 0 false 3 Page)
@@ -269,6 +306,28 @@ another_global_is_not_spelled spells = let same : 0 ≡ 1 = spells.0.2 in absurd
 
 pub another_ssv_is_not_spelled : ¬ Spells (words 0x40 0) (AtcInv 0 true 0 false 0 0)
 another_ssv_is_not_spelled spells = let same : 0 ≡ 1 = spells.0.3 in absurd (omega (arith, same))
+
+-- 2^3 pages at 0x8000 of stream 5 and substream 9
+abbrev of_endpoint : Raw
+of_endpoint = words (0x9840 + 5 * 2 ^ 32) 0x8003
+
+pub pages_of_an_endpoint_are_spelled : Spells of_endpoint (AtcInv 5 true 9 false 3 8)
+pages_of_an_endpoint_are_spelled = ((refl, refl, refl, refl, refl, refl), (refl, omega arith, refl))
+
+pub pages_of_another_endpoint_are_not_spelled : ¬ Spells of_endpoint (AtcInv 6 true 9 false 3 8)
+pages_of_another_endpoint_are_not_spelled spells =
+    let same : 5 ≡ 6 = spells.0.5 in
+    absurd (omega (arith, same))
+
+pub pages_of_another_substream_are_not_spelled : ¬ Spells of_endpoint (AtcInv 5 true 8 false 3 8)
+pages_of_another_substream_are_not_spelled spells =
+    let same : 9 ≡ 8 = spells.0.4 in
+    absurd (omega (arith, same))
+
+pub more_pages_of_an_endpoint_are_not_spelled : ¬ Spells of_endpoint (AtcInv 5 true 9 false 4 8)
+more_pages_of_an_endpoint_are_not_spelled spells =
+    let same : 3 ≡ 4 = spells.1.0 in
+    absurd (omega (arith, same))
 
 pub another_number_is_not_spelled :
     ¬ Spells (words (0x1046 + 7 * 2 ^ 32) 0x4000000c) (CmdSync 1 0 0 8 0x10000003)
