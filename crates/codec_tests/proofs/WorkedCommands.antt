@@ -40,7 +40,7 @@ a_clear_flag_is_0 = refl
 
 -- ---- Opcodes.
 
--- CMD_SYNC with CS 2, a mask in hi
+-- CMD_SYNC with CS 2: neither that nor the other word is of the opcode.
 pub an_opcode_is_eight_bits_of_lo : opcode_of (words 0x2046 0x11) ≡ 0x46
 an_opcode_is_eight_bits_of_lo = refl
 
