@@ -33,9 +33,9 @@ what_is_reserved_is_not_published is = let no : false ≡ true = is.settled 0 (o
 pub a_command_is_published_in_three_steps : (whole : Run) (is : IsPublished two reserved whole 0) → length is.later ≤ 3
 a_command_is_published_in_three_steps whole is = omega (arith, is.events)
 
-pub nobody_else_publishes : (whole : Run) (is : IsPublished two reserved whole 0) → ¬ (is.later ≡ (Consumer, Test 1 0) ∷ [])
+pub nobody_else_publishes : (whole : Run) (is : IsPublished two reserved whole 0) → ¬ (is.later ≡ (Consumer, Flip 0 1) ∷ [])
 nobody_else_publishes whole is later =
-    let only : IsPublication 0 ((Consumer, Test 1 0) ∷ []) = subst (IsPublication 0) later is.alone in
+    let only : IsPublication 0 ((Consumer, Flip 0 1) ∷ []) = subst (IsPublication 0) later is.alone in
     let no = only.0 in absurd (cc)
 
 pub what_happened_is_kept : ¬ IsPublished two reserved [] 0
