@@ -159,6 +159,17 @@ own_command_is_missed entries older held truly = as_old_is_older entries held (n
 pub command_ahead_is_missed : (entries : Entries) (older : Trail) → Holds entries 5 0 → ¬ WasToldTruly told_22 entries 1 1 older
 command_ahead_is_missed entries older held truly = first_is_older entries held (none_older entries older truly)
 
+abbrev is_empty : Trail → Bool
+is_empty [] = true
+is_empty (e ∷ es) = false
+
+-- It was told by its own trail, which is not empty.
+pub another_trail_was_told_nothing : (entries : Entries) → ¬ WasToldTruly told_22 entries 1 1 []
+another_trail_was_told_nothing entries truly =
+    let told = truly.was_told in
+    let is : told_21 ≡ told.earlier = before_ask told.later told.earlier 1 1 told.run_is in
+    let no : false ≡ true = ap (λ (run : Run). is_empty (trail_of (Sender 1) run)) is ∙ ap is_empty told.trail_is in absurd (cc)
+
 -- ---- when it is true
 
 -- If all entries were filled after the three commands, what sender 1 was told is so.

@@ -4,7 +4,7 @@ use Rattle.std.proofs.lemmas.List.{length-append}
 use Rattle.qindex.specs.declared.control.Control.{Control}
 use Rattle.ringcore.specs.declared.world.event.Who.TheVariants.{Consumer, Sender}
 use Rattle.ringcore.specs.declared.world.event.Half.{Half}
-use Rattle.ringcore.specs.declared.world.event.Event.TheVariants.{Look, Won, Write, Flip, Test, Read, Advance, Close, Acknowledge}
+use Rattle.ringcore.specs.declared.world.event.Event.TheVariants.{Look, Won, Lost, Write, Flip, Test, Read, Advance, Close, Acknowledge}
 use Rattle.ringcore.specs.world.Trails.{Run, trail_of, IsSettled}
 use Rattle.ringcore.specs.world.World.{tail, head, world}
 use Rattle.ringcore.specs.world.Allowed.{Ring, IsRun}
@@ -33,9 +33,9 @@ what_is_reserved_is_not_published is = let no : false ≡ true = is.settled 0 (o
 pub a_command_is_published_in_three_steps : (whole : Run) (is : IsPublished two reserved whole 0) → length is.later ≤ 3
 a_command_is_published_in_three_steps whole is = omega (arith, is.events)
 
-pub nobody_else_publishes : (whole : Run) (is : IsPublished two reserved whole 0) → ¬ (is.later ≡ (Consumer, Test 1 0) ∷ [])
+pub nobody_else_publishes : (whole : Run) (is : IsPublished two reserved whole 0) → ¬ (is.later ≡ (Consumer, Flip 0 1) ∷ [])
 nobody_else_publishes whole is later =
-    let only : IsPublication 0 ((Consumer, Test 1 0) ∷ []) = subst (IsPublication 0) later is.alone in
+    let only : IsPublication 0 ((Consumer, Flip 0 1) ∷ []) = subst (IsPublication 0) later is.alone in
     let no = only.0 in absurd (cc)
 
 pub what_happened_is_kept : ¬ IsPublished two reserved [] 0
@@ -165,3 +165,7 @@ an_empty_ring_changes_by_its_close_alone law run is none taken = let few = law t
 
 pub a_lone_sender_loses_no_more_than_changes : AllLossesArePaidFor → (run : Run) → OnlyOf 1 run → IsRun two run → all_losses run ≤ changes run
 a_lone_sender_loses_no_more_than_changes law run of_one is = let few : all_losses run ≤ 1 * changes run = law two 1 run of_one is in omega (arith, few)
+
+-- Sender 1 lost an exchange to sender 0, and sender 0 the next one.
+pub losses_of_all_senders_count : all_losses ((Sender 0, Lost (x ∷ []) false empty) ∷ (Sender 1, Lost (x ∷ []) false empty) ∷ reserved) ≡ 2
+losses_of_all_senders_count = refl

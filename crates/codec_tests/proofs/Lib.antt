@@ -1,0 +1,3 @@
+pub mod WorkedCommands
+pub mod WorkedControls
+pub mod WorkedIndexes
