@@ -223,6 +223,10 @@ none_is_tried_with_one_open it = let settled : false ≡ true = it.settled 0 (om
 pub none_is_tried_beyond_the_last_batch : ¬ MayTry ring_of_no_batches (Look empty ∷ []) (x ∷ []) 1 empty
 none_is_tried_beyond_the_last_batch it = let left : 0 < 0 = it.left in absurd (omega (arith, left))
 
+-- All that it may make have no number.
+pub no_unnumbered_batch_is_tried_beyond_the_last : ¬ MayTry (record ring { max_batches = 1 }) (Look (shows 1 1 0 false) ∷ flipped) (x ∷ []) 1 (shows 1 1 0 false)
+no_unnumbered_batch_is_tried_beyond_the_last it = let left : 1 < 1 = it.left in absurd (omega (arith, left))
+
 pub no_empty_batch_is_tried : ¬ MayTry ring (Look empty ∷ []) [] 0 empty
 no_empty_batch_is_tried it = let some : 1 ≤ 0 = it.body_is.some in absurd (omega (arith, some))
 
@@ -237,6 +241,9 @@ none_is_won_with_one_open it = let settled : false ≡ true = it.settled 0 (omeg
 
 pub none_is_won_beyond_the_last_batch : ¬ MayWin ring_of_no_batches opening (Look empty ∷ []) (x ∷ []) None
 none_is_won_beyond_the_last_batch it = let left : 0 < 0 = it.left in absurd (omega (arith, left))
+
+pub no_unnumbered_batch_is_won_beyond_the_last : ¬ MayWin (record ring { max_batches = 1 }) x_reserved (Look (shows 1 1 0 false) ∷ flipped) (x ∷ []) None
+no_unnumbered_batch_is_won_beyond_the_last it = let left : 1 < 1 = it.left in absurd (omega (arith, left))
 
 pub no_empty_batch_is_won : ¬ MayWin ring opening (Look empty ∷ []) [] None
 no_empty_batch_is_won it = let some : 1 ≤ 0 = it.body_is.some in absurd (omega (arith, some))
