@@ -1,7 +1,6 @@
 -- What the definitions say of the MSI that completes a CMD_SYNC.
-use Rattle.std.proofs.Common.{◌≡◌, ◌≢◌, ◌⊎◌, inl, inr, ℕ, ◌+◌, ◌-◌, ◌%◌, ◌^◌, ◌<◌, ◌≤◌, List, [], ◌∷◌, length, None, refl, arith}
+use Rattle.std.proofs.Common.{◌≡◌, inl, inr, ℕ, List, [], ◌∷◌, None, refl, arith}
 use Rattle.cmdcodec.specs.declared.raw.Raw.{Raw}
-use Rattle.hardware_queue.specs.declared.register_words.RegisterWords.{RegisterWords}
 use Rattle.hardware_queue.specs.Queues.{QueueValue, plain_sync}
 use Rattle.hardware_queue.specs.declared.command_error.CommandError.TheVariants.{Illegal}
 use Rattle.hardware_queue.specs.declared.state.QueueState.TheVariants.{Running, Stopped}

@@ -63,13 +63,15 @@ applied raw = record { raw = raw; outcome = Applied }
 abbrev replaced : Raw → Taken
 replaced raw = record { raw = raw; outcome = Replaced }
 
-pub all_but_what_was_replaced_is_passed_on : passed_on (applied cfgi_ste ∷ replaced illegal ∷ applied closing ∷ []) ≡ cfgi_ste ∷ plain_sync ∷ []
+pub all_but_what_was_replaced_is_passed_on :
+    passed_on (applied cfgi_ste ∷ replaced illegal ∷ applied closing ∷ []) ≡ cfgi_ste ∷ plain_sync ∷ []
 all_but_what_was_replaced_is_passed_on = refl
 
 pub for_none_it_gets_none : passed_on [] ≡ []
 for_none_it_gets_none = refl
 
-pub it_gets_the_legal_ones_in_order : passed_for (cfgi_ste ∷ illegal ∷ closing ∷ []) ≡ cfgi_ste ∷ plain_sync ∷ []
+pub it_gets_the_legal_ones_in_order :
+    passed_for (cfgi_ste ∷ illegal ∷ closing ∷ []) ≡ cfgi_ste ∷ plain_sync ∷ []
 unfolding opcode_named
 it_gets_the_legal_ones_in_order = refl
 
@@ -84,12 +86,16 @@ it_is_owed_all_batches = refl
 -- ---- what senders were told
 
 -- The hardware has passed nothing, so nothing was told truly: neither last nor before that.
-pub nothing_was_told_of_an_idle_queue : (HasEffect : ℕ → Type 0) (run : Run) (older : Trail) → ¬ WasToldAllTruly HasEffect idle run 0 (Ask 1 ∷ older)
+pub nothing_was_told_of_an_idle_queue :
+    (HasEffect : ℕ → Type 0) (run : Run) (older : Trail)
+    → ¬ WasToldAllTruly HasEffect idle run 0 (Ask 1 ∷ older)
 nothing_was_told_of_an_idle_queue HasEffect run older told =
     let carried = (told [] older 1 refl).carried_out 1 (omega arith) (omega arith) in
     let passed : _ < 0 = carried.passed in absurd (omega (arith, passed))
 
-pub nothing_was_told_before_of_an_idle_queue : (HasEffect : ℕ → Type 0) (run : Run) (older : Trail) → ¬ WasToldAllTruly HasEffect idle run 0 (Ask 0 ∷ Ask 1 ∷ older)
+pub nothing_was_told_before_of_an_idle_queue :
+    (HasEffect : ℕ → Type 0) (run : Run) (older : Trail)
+    → ¬ WasToldAllTruly HasEffect idle run 0 (Ask 0 ∷ Ask 1 ∷ older)
 nothing_was_told_before_of_an_idle_queue HasEffect run older told =
     let carried = (told (Ask 0 ∷ []) older 1 refl).carried_out 1 (omega arith) (omega arith) in
     let passed : _ < 0 = carried.passed in absurd (omega (arith, passed))
@@ -101,14 +107,19 @@ nothing_begins [] rest is = refl
 nothing_begins (raw ∷ raws) rest is = absurd (cc)
 
 -- Nothing was reserved, so the hardware was shown nothing.
-pub what_nobody_reserved_is_not_shown : {Q : Type 0} (queue : Q → QueueValue) (has_effect : Q → ℕ → Type 0) (ring : RingValue) (senders : List SenderValue) (forwarder : ForwarderValue Q) (summary : SummaryValue)
+pub what_nobody_reserved_is_not_shown :
+    {Q : Type 0} (queue : Q → QueueValue) (has_effect : Q → ℕ → Type 0) (ring : RingValue) (senders : List SenderValue)
+    (forwarder : ForwarderValue Q) (summary : SummaryValue)
     (end : IsForwarderEnd queue has_effect ring senders forwarder summary)
     → end.end_is.end_is.run ≡ [] → (queue forwarder.owner.queue).shown ≡ []
 what_nobody_reserved_is_not_shown queue has_effect ring senders forwarder summary end none =
     nothing_begins _ end.order.0 (sym (ap (λ (run : Run). owed run) none) ∙ end.order.1)
 
 -- Whatever the second sender was told was true.
-pub each_sender_was_told_truly : {Q : Type 0} (queue : Q → QueueValue) (has_effect : Q → ℕ → Type 0) (ring : RingValue) (senders : List SenderValue) (forwarder : ForwarderValue Q) (summary : SummaryValue)
-    (end : IsForwarderEnd queue has_effect ring senders forwarder summary) (s : SenderValue) → slice_get senders 1 ≡ Some s
+pub each_sender_was_told_truly :
+    {Q : Type 0} (queue : Q → QueueValue) (has_effect : Q → ℕ → Type 0) (ring : RingValue) (senders : List SenderValue)
+    (forwarder : ForwarderValue Q) (summary : SummaryValue)
+    (end : IsForwarderEnd queue has_effect ring senders forwarder summary) (s : SenderValue)
+    → slice_get senders 1 ≡ Some s
     → WasToldAllTruly (has_effect forwarder.owner.queue) (queue forwarder.owner.queue) end.end_is.end_is.run 1 s.trail
 each_sender_was_told_truly queue has_effect ring senders forwarder summary end s at = end.told 1 s at

@@ -41,7 +41,8 @@ pub no_ring_has_257_senders : ¬ IsWithinLimits (record ring { senders = 257 })
 no_ring_has_257_senders limits = let few : 257 ≤ 256 = limits.senders in absurd (omega (arith, few))
 
 pub no_ring_counts_batches_beyond_32_bits : ¬ IsWithinLimits (record ring { max_batches = 4294967296 })
-no_ring_counts_batches_beyond_32_bits limits = let few : 4294967296 < 2 ^ 32 = limits.batches in absurd (omega (arith, few))
+no_ring_counts_batches_beyond_32_bits limits =
+    let few : 4294967296 < 2 ^ 32 = limits.batches in absurd (omega (arith, few))
 
 -- ---- how a run goes on
 
@@ -64,7 +65,8 @@ a_run_goes_on_by_a_step_of_another = record { newer = close_of 1; run_is = refl;
 
 -- ---- what a seat knows
 
-pub nothing_stands_beyond_the_limits : ¬ Stands (record ring { max_batches = 4294967296 }) (Sender 0) [] [] zeros
+pub nothing_stands_beyond_the_limits :
+    ¬ Stands (record ring { max_batches = 4294967296 }) (Sender 0) [] [] zeros
 nothing_stands_beyond_the_limits stands = no_ring_counts_batches_beyond_32_bits stands.limits
 
 pub no_other_words_stand : ¬ Stands ring (Sender 0) [] [] []
@@ -83,7 +85,8 @@ pub a_history_has_the_trail : ¬ IsHistory ring (Sender 0) (Close ∷ []) []
 a_history_has_the_trail is = let same : [] ≡ Close ∷ [] = is.stands.trail_is in absurd (cc)
 
 pub what_grew_ends_with_the_step : ¬ GrewBy (Sender 0) Close [] []
-what_grew_ends_with_the_step grew = let same : [] ≡ (Sender 0, Close) ∷ grew.before = grew.run_is in absurd (cc)
+what_grew_ends_with_the_step grew =
+    let same : [] ≡ (Sender 0, Close) ∷ grew.before = grew.run_is in absurd (cc)
 
 abbrev behind_newest : Run → Run
 behind_newest [] = []
@@ -91,10 +94,12 @@ behind_newest (e ∷ run) = run
 
 -- It took another step since the older run.
 pub what_grew_has_one_step_more : ¬ GrewBy (Sender 0) Close [] ((Sender 0, Close) ∷ close_of 0)
-what_grew_has_one_step_more grew = a_run_goes_on_by_steps_of_others grew.before (sym (ap behind_newest grew.run_is)) grew.went_on
+what_grew_has_one_step_more grew =
+    a_run_goes_on_by_steps_of_others grew.before (sym (ap behind_newest grew.run_is)) grew.went_on
 
 pub nothing_is_applied_at_first : ¬ AreApplied [] 0 1
-nothing_is_applied_at_first are = let none : None ≡ Some _ = (are 1 (omega arith) (omega arith)).completed.sync in absurd (cc)
+nothing_is_applied_at_first are =
+    let none : None ≡ Some _ = (are 1 (omega arith) (omega arith)).completed.sync in absurd (cc)
 
 -- ---- what a consumer took
 
@@ -109,13 +114,18 @@ taken raw = record { raw = raw; outcome = Applied }
 abbrev took : Trail
 took = Advance (y ∷ []) ∷ Advance (x ∷ illegal ∷ []) ∷ []
 
-pub all_is_told_as_it_was_taken : taken_of took ≡ taken x ∷ record { raw = illegal; outcome = Replaced } ∷ taken y ∷ []
+pub all_is_told_as_it_was_taken :
+    taken_of took ≡ taken x ∷ record { raw = illegal; outcome = Replaced } ∷ taken y ∷ []
 unfolding opcode_named
 all_is_told_as_it_was_taken = refl
 
 -- two of three are settled, and one more was read
 abbrev two_settled : RingValue → DeferringValue (Unit {0})
-two_settled r = record { consumer = record { ring = r; trail = took; history = []; lent = None }; raws = x ∷ []; settled = 2 }
+two_settled r = record {
+  consumer = record { ring = r; trail = took; history = []; lent = None };
+  raws = x ∷ [];
+  settled = 2;
+}
 
 pub the_first_taken_are_settled : (r : RingValue) → settled_raws (two_settled r) ≡ x ∷ illegal ∷ []
 the_first_taken_are_settled r = refl
@@ -131,19 +141,26 @@ sender r number = record { ring = r; number = number; trail = []; history = [] }
 pub none_is_missing : (table : TableId) → ¬ AreAll (ring_value table ring) []
 none_is_missing table all = let many : 0 ≡ 1 = all.many in absurd (omega (arith, many))
 
-pub each_has_its_number : (table : TableId) → ¬ AreAll (ring_value table ring) (sender (ring_value table ring) 1 ∷ [])
+pub each_has_its_number :
+    (table : TableId) → ¬ AreAll (ring_value table ring) (sender (ring_value table ring) 1 ∷ [])
 each_has_its_number table all =
-    let same : 1 ≡ 0 = (all.each 0 (sender (ring_value table ring) 1) refl).1 in absurd (omega (arith, same))
+    let same : 1 ≡ 0 = (all.each 0 (sender (ring_value table ring) 1) refl).1 in
+    absurd (omega (arith, same))
+
+-- a sender of another ring
+abbrev other : TableId → SenderValue
+other table = sender (ring_value table (record ring { max_batches = 3 })) 0
 
 abbrev batches_of_ring : RingValue → ℕ
 batches_of_ring r = r.made_with.max_batches
 
-pub each_is_of_this_ring : (table : TableId) → ¬ AreAll (ring_value table ring) (sender (ring_value table (record ring { max_batches = 3 })) 0 ∷ [])
+pub each_is_of_this_ring : (table : TableId) → ¬ AreAll (ring_value table ring) (other table ∷ [])
 each_is_of_this_ring table all =
-    let same : 3 ≡ 4 = ap batches_of_ring (all.each 0 (sender (ring_value table (record ring { max_batches = 3 })) 0) refl).0 in
-    absurd (omega (arith, same))
+    let same : 3 ≡ 4 = ap batches_of_ring (all.each 0 (other table) refl).0 in absurd (omega (arith, same))
 
 -- Ahead of a batch of y came one of x without a closing sync.
 pub what_was_reserved_ahead : (run : Run) (s number : ℕ) (applied : IsApplied run s number)
-    → applied.completed.ahead ≡ record { sender = 0; number = None; body = x ∷ [] } ∷ [] → applied.completed.body ≡ y ∷ [] → reserved_ahead applied ≡ x ∷ y ∷ []
-what_was_reserved_ahead run s number applied ahead body = ap₂ (λ (bs : List Batch) (raws : List Raw). joined bs ++ raws) ahead body
+    → applied.completed.ahead ≡ record { sender = 0; number = None; body = x ∷ [] } ∷ []
+    → applied.completed.body ≡ y ∷ [] → reserved_ahead applied ≡ x ∷ y ∷ []
+what_was_reserved_ahead run s number applied ahead body =
+    ap₂ (λ (bs : List Batch) (raws : List Raw). joined bs ++ raws) ahead body

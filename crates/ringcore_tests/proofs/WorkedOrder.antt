@@ -1,7 +1,5 @@
 -- What lists of events say of batches, and what is asked of their order.
-use Rattle.std.proofs.Common.{◌≡◌, ℕ, true, false, List, [], ◌∷◌, ◌++◌, length, Option, Some, None, refl, ap, subst, inl, inr, arith}
-use Rattle.std.proofs.lemmas.Option.{none-some}
-use Rattle.std.specs.Prelude.{slice_get}
+use Rattle.std.proofs.Common.{◌≡◌, ℕ, true, false, List, [], ◌∷◌, ◌++◌, Option, Some, None, refl, ap, inl, inr, arith}
 use Rattle.cmdcodec.specs.declared.raw.Raw.{Raw}
 use Rattle.ringcore.specs.declared.world.event.Who.TheVariants.{Consumer, Sender}
 use Rattle.ringcore.specs.declared.world.event.Event.TheVariants.{Look, Won, Lost, Test, Advance, Close, Ask}
@@ -20,12 +18,15 @@ batch s number raw = record { sender = s; number = number; body = raw ∷ [] }
 -- sender 0 reserves x with a number, and sender 1 y without one, after each has looked
 abbrev two_reserved : Run
 two_reserved =
-    (Sender 1, Won (y ∷ []) None) ∷ (Sender 1, Look (shows 2 2 0 false)) ∷ (Sender 0, Won (x ∷ []) (Some 1)) ∷ (Sender 0, Look (shows 2 0 0 false)) ∷ []
+    (Sender 1, Won (y ∷ []) None) ∷ (Sender 1, Look (shows 2 2 0 false)) ∷
+    (Sender 0, Won (x ∷ []) (Some 1)) ∷ (Sender 0, Look (shows 2 0 0 false)) ∷ []
 
-pub batches_are_in_the_order_of_their_reserves : batches two_reserved ≡ batch 0 (Some 1) x ∷ batch 1 None y ∷ []
+pub batches_are_in_the_order_of_their_reserves :
+    batches two_reserved ≡ batch 0 (Some 1) x ∷ batch 1 None y ∷ []
 batches_are_in_the_order_of_their_reserves = refl
 
-pub a_lost_exchange_is_no_batch : batches ((Sender 0, Lost (x ∷ []) false (shows 2 0 0 false)) ∷ two_reserved) ≡ batches two_reserved
+pub a_lost_exchange_is_no_batch :
+    batches ((Sender 0, Lost (x ∷ []) false (shows 2 0 0 false)) ∷ two_reserved) ≡ batches two_reserved
 a_lost_exchange_is_no_batch = refl
 
 pub the_commands_of_a_batch_end_with_its_sync : joined (batches two_reserved) ≡ x ∷ sync_raw 0 1 ∷ y ∷ []
@@ -71,7 +72,8 @@ first [] = 0
 first (n ∷ ns) = n
 
 pub a_list_begins_with_nothing_else : ¬ Begins {A = ℕ} (2 ∷ []) (1 ∷ 2 ∷ [])
-a_list_begins_with_nothing_else begins = let same : 1 ≡ 2 = ap first begins.1 in absurd (omega (arith, same))
+a_list_begins_with_nothing_else begins =
+    let same : 1 ≡ 2 = ap first begins.1 in absurd (omega (arith, same))
 
 -- ---- ordered delivery
 
@@ -80,49 +82,60 @@ first_lo [] = 0
 first_lo (raw ∷ raws) = raw.lo
 
 -- y is taken, and x was reserved.
-pub no_order_takes_another_command : ¬ IsOrderedDelivery ((Consumer, Advance (y ∷ [])) ∷ (Sender 0, Won (x ∷ []) None) ∷ [])
+pub no_order_takes_another_command :
+    ¬ IsOrderedDelivery ((Consumer, Advance (y ∷ [])) ∷ (Sender 0, Won (x ∷ []) None) ∷ [])
 no_order_takes_another_command delivery =
     let same : 0x500000003 ≡ 0x600000003 = ap first_lo delivery.taken.1 in absurd (omega (arith, same))
 
 pub no_order_numbers_the_first_2 : ¬ IsOrderedDelivery ((Sender 0, Won (x ∷ []) (Some 2)) ∷ [])
-no_order_numbers_the_first_2 delivery = let same : 2 ≡ 1 = ap first (delivery.numbered 0) in absurd (omega (arith, same))
+no_order_numbers_the_first_2 delivery =
+    let same : 2 ≡ 1 = ap first (delivery.numbered 0) in absurd (omega (arith, same))
 
-pub no_order_reserves_after_a_close : ¬ IsOrderedDelivery ((Sender 0, Won (x ∷ []) None) ∷ (Sender 1, Close) ∷ [])
+pub no_order_reserves_after_a_close :
+    ¬ IsOrderedDelivery ((Sender 0, Won (x ∷ []) None) ∷ (Sender 1, Close) ∷ [])
 no_order_reserves_after_a_close delivery =
-    let closed : true ≡ false = delivery.closed [] ((Sender 1, Close) ∷ []) 0 (x ∷ []) None refl in absurd (cc)
+    let closed : true ≡ false = delivery.closed [] ((Sender 1, Close) ∷ []) 0 (x ∷ []) None refl in
+    absurd (cc)
 
 -- Sender 0 was told of its batch, of which nothing is taken.
-abbrev told_early : Run
-told_early = (Sender 0, Ask 1) ∷ (Sender 0, Won (x ∷ []) (Some 1)) ∷ []
+abbrev untaken : Run
+untaken = (Sender 0, Won (x ∷ []) (Some 1)) ∷ []
 
-nothing_is_completed : (run : Run) (s number : ℕ) → advanced run ≡ [] → ¬ IsCompleted run s number
-nothing_is_completed run s number none it =
-    let at : ℕ = length (joined it.ahead ++ it.body) in
-    none-some _ (subst (λ raws. slice_get raws at ≡ Some (sync_raw s number)) none it.sync)
+abbrev told_early : Run
+told_early = (Sender 0, Ask 1) ∷ untaken
+
+nothing_is_completed : ¬ IsCompleted untaken 0 1
+nothing_is_completed it = let none : None ≡ Some (sync_raw 0 1) = it.sync in absurd (cc)
 
 pub no_order_tells_early : ¬ IsOrderedDelivery told_early
-no_order_tells_early delivery = nothing_is_completed _ 0 1 refl (delivery.told [] ((Sender 0, Won (x ∷ []) (Some 1)) ∷ []) 0 1 refl (omega arith))
+no_order_tells_early delivery = nothing_is_completed (delivery.told [] untaken 0 1 refl (omega arith))
 
 pub none_is_told_early : ¬ ToldWhenCompleted told_early
-none_is_told_early told = nothing_is_completed _ 0 1 refl (told [] ((Sender 0, Won (x ∷ []) (Some 1)) ∷ []) 0 1 refl (omega arith))
+none_is_told_early told = nothing_is_completed (told [] untaken 0 1 refl (omega arith))
+
+abbrev later_taken : Run
+later_taken = (Consumer, Advance (x ∷ sync_raw 0 1 ∷ [])) ∷ []
 
 -- What comes later doesn't make it true.
-pub none_is_told_before_it_is_taken : ¬ ToldWhenCompleted ((Consumer, Advance (x ∷ sync_raw 0 1 ∷ [])) ∷ told_early)
-none_is_told_before_it_is_taken told =
-    nothing_is_completed _ 0 1 refl (told ((Consumer, Advance (x ∷ sync_raw 0 1 ∷ [])) ∷ []) ((Sender 0, Won (x ∷ []) (Some 1)) ∷ []) 0 1 refl (omega arith))
+pub none_is_told_before_it_is_taken : ¬ ToldWhenCompleted (later_taken ++ told_early)
+none_is_told_before_it_is_taken told = nothing_is_completed (told later_taken untaken 0 1 refl (omega arith))
+
+abbrev later_asked : Run
+later_asked = (Sender 0, Ask 0) ∷ []
 
 -- An older ask counts too.
-pub none_was_told_early : ¬ ToldWhenCompleted ((Sender 0, Ask 0) ∷ told_early)
-none_was_told_early told =
-    nothing_is_completed _ 0 1 refl (told ((Sender 0, Ask 0) ∷ []) ((Sender 0, Won (x ∷ []) (Some 1)) ∷ []) 0 1 refl (omega arith))
+pub none_was_told_early : ¬ ToldWhenCompleted (later_asked ++ told_early)
+none_was_told_early told = nothing_is_completed (told later_asked untaken 0 1 refl (omega arith))
 
 -- ---- whose batches they are
 
-pub batches_of_a_sender_are_its_own : batches_of 0 four_batches ≡ batch 0 (Some 1) x ∷ batch 0 None x ∷ batch 0 (Some 2) y ∷ []
+pub batches_of_a_sender_are_its_own :
+    batches_of 0 four_batches ≡ batch 0 (Some 1) x ∷ batch 0 None x ∷ batch 0 (Some 2) y ∷ []
 batches_of_a_sender_are_its_own = refl
 
 pub a_trail_tells_its_batches_in_order :
-    own_batches 1 (Close ∷ Won (y ∷ []) (Some 1) ∷ Ask 0 ∷ Won (x ∷ []) None ∷ []) ≡ batch 1 None x ∷ batch 1 (Some 1) y ∷ []
+    own_batches 1 (Close ∷ Won (y ∷ []) (Some 1) ∷ Ask 0 ∷ Won (x ∷ []) None ∷ [])
+    ≡ batch 1 None x ∷ batch 1 (Some 1) y ∷ []
 a_trail_tells_its_batches_in_order = refl
 
 pub a_sender_below_their_number_is_one : IsOne 2 (Sender 1)
@@ -164,5 +177,6 @@ none_saw_it_drained_that_saw_it_open saw = elim saw [
 ]
 
 -- An older look counts too, and with it later steps.
-pub an_older_look_saw_it_drained : SawDrained (Test 1 0 ∷ Look (shows 2 3 3 false) ∷ Look (shows 2 3 3 true) ∷ [])
+pub an_older_look_saw_it_drained :
+    SawDrained (Test 1 0 ∷ Look (shows 2 3 3 false) ∷ Look (shows 2 3 3 true) ∷ [])
 an_older_look_saw_it_drained = inr (inl (refl, refl))

@@ -1,5 +1,5 @@
 -- What each kind of step asks: for each of its conditions a step that it alone refuses.
-use Rattle.std.proofs.Common.{◌≡◌, ℕ, zero, suc, ◌<◌, ◌≤◌, Bool, true, false, cond, ◌==◌, List, [], ◌∷◌, Option, Some, None, refl, sym, ap, subst, arith}
+use Rattle.std.proofs.Common.{◌≡◌, ℕ, zero, suc, ◌<◌, ◌≤◌, Bool, true, false, cond, ◌==◌, [], ◌∷◌, Option, Some, None, refl, sym, ap, subst, arith}
 use Rattle.std.proofs.lemmas.Option.{none-some, same_Some}
 use Rattle.std.specs.Prelude.{slice_get}
 use Rattle.cmdcodec.specs.declared.raw.Raw.{Raw}
@@ -20,7 +20,10 @@ ring = record { geometry = 1; senders = 2; max_batches = 2; flags = 64 }
 abbrev narrow_ring : Ring
 narrow_ring = record ring { flags = 1 }
 
--- and one in which nobody may reserve a batch
+-- one in which each sender may reserve one batch, and one in which nobody may
+abbrev ring_of_one_batch : Ring
+ring_of_one_batch = record ring { max_batches = 1 }
+
 abbrev ring_of_no_batches : Ring
 ring_of_no_batches = record ring { max_batches = 0 }
 
@@ -81,12 +84,16 @@ abbrev x_half_written : Run
 x_half_written = (Sender 0, Write 0 Lo) ∷ (Sender 0, Won (x ∷ []) None) ∷ (Sender 0, Look empty) ∷ []
 
 -- The newest event is judged by its own seat's trail.
-pub nobody_writes_what_another_reserved : ¬ IsRun ring ((Sender 1, Write 0 Lo) ∷ (Sender 0, Won (x ∷ []) None) ∷ (Sender 0, Look empty) ∷ [])
-nobody_writes_what_another_reserved run = let inside : 0 < 0 = run.1.inside in absurd (omega (arith, inside))
+pub nobody_writes_what_another_reserved :
+    ¬ IsRun ring ((Sender 1, Write 0 Lo) ∷ (Sender 0, Won (x ∷ []) None) ∷ (Sender 0, Look empty) ∷ [])
+nobody_writes_what_another_reserved run =
+    let inside : 0 < 0 = run.1.inside in absurd (omega (arith, inside))
 
 pub a_sender_writes_what_it_reserved : IsRun ring x_half_written
-a_sender_writes_what_it_reserved =
-    (((tt, refl), record {
+a_sender_writes_what_it_reserved = (
+  (
+    (tt, refl),
+    record {
       looked_at = refl;
       unclosed = refl;
       settled = none _;
@@ -94,13 +101,17 @@ a_sender_writes_what_it_reserved =
       body_is = body_of_one;
       next = tt;
       room = omega arith;
-    }), record { inside = omega arith; unflipped = refl })
+    },
+  ),
+  record { inside = omega arith; unflipped = refl },
+)
 
 -- It finds what the events before it made of the opening world.
 pub a_look_finds_what_was_reserved : IsRun ring ((Sender 1, Look (shows 1 1 0 false)) ∷ x_half_written)
 a_look_finds_what_was_reserved = (a_sender_writes_what_it_reserved, refl)
 
-pub no_run_has_a_batch_more_than_the_most : ¬ IsRun ring_of_no_batches ((Sender 0, Won (x ∷ []) None) ∷ (Sender 0, Look empty) ∷ [])
+pub no_run_has_a_batch_more_than_the_most :
+    ¬ IsRun ring_of_no_batches ((Sender 0, Won (x ∷ []) None) ∷ (Sender 0, Look empty) ∷ [])
 no_run_has_a_batch_more_than_the_most run = let left : 0 < 0 = run.1.left in absurd (omega (arith, left))
 
 pub no_look_finds_what_is_not_there : ¬ Allowed ring opening [] (Sender 0) (Look (shows 1 1 0 false))
@@ -122,7 +133,8 @@ pub no_ask_finds_what_is_not_there : ¬ Allowed ring opening [] (Sender 0) (Ask 
 no_ask_finds_what_is_not_there it = let same : 1 ≡ 0 = it in absurd (omega (arith, same))
 
 -- Sender 0 has the number 1, and sender 1 none.
-pub an_ask_finds_the_sender_s_own_number : ¬ Allowed ring (record opening { acknowledged = λ s. cond (s == 0) 1 0 }) [] (Sender 1) (Ask 1)
+pub an_ask_finds_the_sender_s_own_number :
+    ¬ Allowed ring (record opening { acknowledged = λ s. cond (s == 0) 1 0 }) [] (Sender 1) (Ask 1)
 an_ask_finds_the_sender_s_own_number it = let same : 1 ≡ 0 = it in absurd (omega (arith, same))
 
 pub none_is_found_where_none_is : ¬ Allowed ring opening [] Consumer (Test 1 1)
@@ -135,13 +147,15 @@ pub none_is_taken_without_a_test : ¬ Allowed ring x_reserved [] Consumer (Advan
 none_is_taken_without_a_test it = let ready : 1 ≤ 0 = it.ready in absurd (omega (arith, ready))
 
 pub none_is_acknowledged_before_it_is_taken : ¬ Allowed ring opening [] Consumer (Acknowledge 0 1)
-none_is_acknowledged_before_it_is_taken it = let below : it.taken.position < 0 = it.taken.below in absurd (omega (arith, below))
+none_is_acknowledged_before_it_is_taken it =
+    let below : it.taken.position < 0 = it.taken.below in absurd (omega (arith, below))
 
 -- Each kind belongs to one side. Only a look is everybody's.
 pub no_sender_acknowledges : ¬ Allowed ring both_taken [] (Sender 0) (Acknowledge 0 1)
 no_sender_acknowledges it = it
 
-pub no_sender_takes : ¬ Allowed ring x_reserved (Read 0 Hi 1 ∷ Read 0 Lo 0x500000003 ∷ Test 1 1 ∷ []) (Sender 0) (Advance (x ∷ []))
+pub no_sender_takes :
+    ¬ Allowed ring x_reserved (Read 0 Hi 1 ∷ Read 0 Lo 0x500000003 ∷ Test 1 1 ∷ []) (Sender 0) (Advance (x ∷ []))
 no_sender_takes it = it
 
 pub no_sender_tests : ¬ Allowed ring opening [] (Sender 0) (Test 1 0)
@@ -165,7 +179,8 @@ no_consumer_flips it = it
 pub no_consumer_asks : ¬ Allowed ring opening [] Consumer (Ask 0)
 no_consumer_asks it = it
 
-pub no_consumer_loses : ¬ Allowed ring x_reserved (Look empty ∷ []) Consumer (Lost (x ∷ []) false (shows 1 1 0 false))
+pub no_consumer_loses :
+    ¬ Allowed ring x_reserved (Look empty ∷ []) Consumer (Lost (x ∷ []) false (shows 1 1 0 false))
 no_consumer_loses it = it
 
 -- ---- how many in a row, and where
@@ -185,7 +200,8 @@ two_words_are_not_one share = let same : 1 ≡ 0 = share 1 (omega arith) in absu
 
 -- With 64 flags a word, positions 63 and 64 of a ring of 128 are in two of them, and 64 and 65 in one.
 pub flags_on_both_sides_of_64_share_no_word : ¬ ShareAWord 64 7 63 2
-flags_on_both_sides_of_64_share_no_word share = let same : 1 ≡ 0 = share 1 (omega arith) in absurd (omega (arith, same))
+flags_on_both_sides_of_64_share_no_word share =
+    let same : 1 ≡ 0 = share 1 (omega arith) in absurd (omega (arith, same))
 
 -- The last slot and, a lap later, the first have their flags in one word.
 pub flags_share_a_word_past_the_end_of_the_ring : ShareAWord 64 1 63 2
@@ -211,29 +227,35 @@ none_counts_where_none_closes = refl
 pub none_is_tried_without_a_look : ¬ MayTry ring [] (x ∷ []) 1 empty
 none_is_tried_without_a_look it = let seen : None ≡ Some empty = it.looked_at in absurd (cc)
 
-pub none_is_tried_twice_by_a_look : ¬ MayTry ring (Lost (x ∷ []) false (shows 1 1 0 false) ∷ Look empty ∷ []) (x ∷ []) 1 empty
+pub none_is_tried_twice_by_a_look :
+    ¬ MayTry ring (Lost (x ∷ []) false (shows 1 1 0 false) ∷ Look empty ∷ []) (x ∷ []) 1 empty
 none_is_tried_twice_by_a_look it = let seen : None ≡ Some empty = it.looked_at in absurd (cc)
 
-pub none_is_tried_in_a_closed_ring : ¬ MayTry ring (Look (shows 1 0 0 true) ∷ []) (x ∷ []) 1 (shows 1 0 0 true)
+pub none_is_tried_in_a_closed_ring :
+    ¬ MayTry ring (Look (shows 1 0 0 true) ∷ []) (x ∷ []) 1 (shows 1 0 0 true)
 none_is_tried_in_a_closed_ring it = let unclosed : true ≡ false = it.unclosed in absurd (cc)
 
-pub none_is_tried_with_one_open : ¬ MayTry ring (Look (shows 1 1 0 false) ∷ reserved) (x ∷ []) 1 (shows 1 1 0 false)
+pub none_is_tried_with_one_open :
+    ¬ MayTry ring (Look (shows 1 1 0 false) ∷ reserved) (x ∷ []) 1 (shows 1 1 0 false)
 none_is_tried_with_one_open it = let settled : false ≡ true = it.settled 0 (omega arith) in absurd (cc)
 
 pub none_is_tried_beyond_the_last_batch : ¬ MayTry ring_of_no_batches (Look empty ∷ []) (x ∷ []) 1 empty
 none_is_tried_beyond_the_last_batch it = let left : 0 < 0 = it.left in absurd (omega (arith, left))
 
 -- All that it may make have no number.
-pub no_unnumbered_batch_is_tried_beyond_the_last : ¬ MayTry (record ring { max_batches = 1 }) (Look (shows 1 1 0 false) ∷ flipped) (x ∷ []) 1 (shows 1 1 0 false)
+pub no_unnumbered_batch_is_tried_beyond_the_last :
+    ¬ MayTry ring_of_one_batch (Look (shows 1 1 0 false) ∷ flipped) (x ∷ []) 1 (shows 1 1 0 false)
 no_unnumbered_batch_is_tried_beyond_the_last it = let left : 1 < 1 = it.left in absurd (omega (arith, left))
 
 pub no_empty_batch_is_tried : ¬ MayTry ring (Look empty ∷ []) [] 0 empty
 no_empty_batch_is_tried it = let some : 1 ≤ 0 = it.body_is.some in absurd (omega (arith, some))
 
-pub none_is_tried_without_room : ¬ MayTry ring (Look (shows 1 2 0 false) ∷ []) (x ∷ []) 1 (shows 1 2 0 false)
+pub none_is_tried_without_room :
+    ¬ MayTry ring (Look (shows 1 2 0 false) ∷ []) (x ∷ []) 1 (shows 1 2 0 false)
 none_is_tried_without_room it = let room : 3 ≤ 2 = it.room in absurd (omega (arith, room))
 
-pub none_is_won_in_a_closed_ring : ¬ MayWin ring (record opening { closed = true }) (Look (shows 1 0 0 true) ∷ []) (x ∷ []) None
+pub none_is_won_in_a_closed_ring :
+    ¬ MayWin ring (record opening { closed = true }) (Look (shows 1 0 0 true) ∷ []) (x ∷ []) None
 none_is_won_in_a_closed_ring it = let unclosed : true ≡ false = it.unclosed in absurd (cc)
 
 pub none_is_won_with_one_open : ¬ MayWin ring x_reserved (Look (shows 1 1 0 false) ∷ reserved) (x ∷ []) None
@@ -242,7 +264,8 @@ none_is_won_with_one_open it = let settled : false ≡ true = it.settled 0 (omeg
 pub none_is_won_beyond_the_last_batch : ¬ MayWin ring_of_no_batches opening (Look empty ∷ []) (x ∷ []) None
 none_is_won_beyond_the_last_batch it = let left : 0 < 0 = it.left in absurd (omega (arith, left))
 
-pub no_unnumbered_batch_is_won_beyond_the_last : ¬ MayWin (record ring { max_batches = 1 }) x_reserved (Look (shows 1 1 0 false) ∷ flipped) (x ∷ []) None
+pub no_unnumbered_batch_is_won_beyond_the_last :
+    ¬ MayWin ring_of_one_batch x_reserved (Look (shows 1 1 0 false) ∷ flipped) (x ∷ []) None
 no_unnumbered_batch_is_won_beyond_the_last it = let left : 1 < 1 = it.left in absurd (omega (arith, left))
 
 pub no_empty_batch_is_won : ¬ MayWin ring opening (Look empty ∷ []) [] None
@@ -258,20 +281,24 @@ none_is_won_without_room_for_its_sync it = let room : 3 ≤ 2 = it.room in absur
 pub none_is_lost_where_nothing_changed : ¬ MayLose ring opening (Look empty ∷ []) (x ∷ []) false empty
 none_is_lost_where_nothing_changed it = it.other (same_Some empty it.before it.tries.looked_at)
 
-pub a_lost_exchange_finds_what_is_there : ¬ MayLose ring opening (Look empty ∷ []) (x ∷ []) false (shows 1 1 0 false)
-a_lost_exchange_finds_what_is_there it = let same : 1 ≡ 0 = ap prod_of it.found_is in absurd (omega (arith, same))
+pub a_lost_exchange_finds_what_is_there :
+    ¬ MayLose ring opening (Look empty ∷ []) (x ∷ []) false (shows 1 1 0 false)
+a_lost_exchange_finds_what_is_there it =
+    let same : 1 ≡ 0 = ap prod_of it.found_is in absurd (omega (arith, same))
 
 pub none_is_lost_that_is_not_tried : ¬ MayLose ring x_reserved [] (x ∷ []) false (shows 1 1 0 false)
 none_is_lost_that_is_not_tried it = none-some _ it.tries.looked_at
 
 -- By the look there was room for both commands, and not for their closing sync too.
-pub none_is_lost_without_room_for_its_sync : ¬ MayLose ring x_reserved (Look empty ∷ []) (x ∷ x ∷ []) true (shows 1 1 0 false)
+pub none_is_lost_without_room_for_its_sync :
+    ¬ MayLose ring x_reserved (Look empty ∷ []) (x ∷ x ∷ []) true (shows 1 1 0 false)
 none_is_lost_without_room_for_its_sync it =
     let before : empty ≡ it.before = same_Some empty it.before it.tries.looked_at in
-    let room : MayTry ring (Look empty ∷ []) (x ∷ x ∷ []) 3 empty = subst (MayTry ring (Look empty ∷ []) (x ∷ x ∷ []) 3) (sym before) it.tries in
-    let most : 3 ≤ 2 = room.room in absurd (omega (arith, most))
+    let tries = subst (MayTry ring (Look empty ∷ []) (x ∷ x ∷ []) 3) (sym before) it.tries in
+    let room : 3 ≤ 2 = tries.room in absurd (omega (arith, room))
 
-pub none_is_lost_beyond_the_last_batch : ¬ MayLose ring_of_no_batches x_reserved (Look empty ∷ []) (x ∷ []) false (shows 1 1 0 false)
+pub none_is_lost_beyond_the_last_batch :
+    ¬ MayLose ring_of_no_batches x_reserved (Look empty ∷ []) (x ∷ []) false (shows 1 1 0 false)
 none_is_lost_beyond_the_last_batch it = let left : 0 < 0 = it.tries.left in absurd (omega (arith, left))
 
 -- ---- write and flip
@@ -297,12 +324,16 @@ none_is_flipped_twice it = let unflipped : true ≡ false = it.unflipped 0 (omeg
 pub none_is_flipped_half_written : ¬ MayFlip ring half_written 0 0 1
 none_is_flipped_half_written it = let written : false ≡ true = it.written 0 Hi (omega arith) in absurd (cc)
 
-pub none_is_flipped_unwritten_behind_the_first : ¬ MayFlip ring (Write 0 Hi ∷ Write 0 Lo ∷ Won (x ∷ x ∷ []) None ∷ []) 0 0 2
-none_is_flipped_unwritten_behind_the_first it = let written : false ≡ true = it.written 1 Lo (omega arith) in absurd (cc)
+pub none_is_flipped_unwritten_behind_the_first :
+    ¬ MayFlip ring (Write 0 Hi ∷ Write 0 Lo ∷ Won (x ∷ x ∷ []) None ∷ []) 0 0 2
+none_is_flipped_unwritten_behind_the_first it =
+    let written : false ≡ true = it.written 1 Lo (omega arith) in absurd (cc)
 
 -- With two flags a word in a ring of four, a reservation from position 1 on has its first two in two words.
-pub a_flip_is_in_the_word_of_its_own_position : ¬ MayFlip (record ring { geometry = 2; flags = 2 }) both_written 1 0 2
-a_flip_is_in_the_word_of_its_own_position it = let same : 1 ≡ 0 = it.in_word 1 (omega arith) in absurd (omega (arith, same))
+pub a_flip_is_in_the_word_of_its_own_position :
+    ¬ MayFlip (record ring { geometry = 2; flags = 2 }) both_written 1 0 2
+a_flip_is_in_the_word_of_its_own_position it =
+    let same : 1 ≡ 0 = it.in_word 1 (omega arith) in absurd (omega (arith, same))
 
 -- ---- test, read and advance
 
@@ -317,10 +348,12 @@ pub none_is_found_beyond_the_limit : ¬ FindsReady ring (with_flipped (λ positi
 none_is_found_beyond_the_limit it = absurd (omega (arith, it.most))
 
 pub none_is_found_in_another_word : ¬ FindsReady narrow_ring (with_flipped (λ position. true)) 2 2
-none_is_found_in_another_word it = let same : 1 ≡ 0 = it.in_word 1 (omega arith) in absurd (omega (arith, same))
+none_is_found_in_another_word it =
+    let same : 1 ≡ 0 = it.in_word 1 (omega arith) in absurd (omega (arith, same))
 
 pub none_that_is_ready_is_passed_over : ¬ FindsReady ring (with_flipped (λ position. true)) 1 0
-none_that_is_ready_is_passed_over it = let unready : true ≡ false = it.no_more (omega arith) (one _ refl) in absurd (cc)
+none_that_is_ready_is_passed_over it =
+    let unready : true ≡ false = it.no_more (omega arith) (one _ refl) in absurd (cc)
 
 pub none_is_read_that_was_not_found : ¬ MayRead x_reserved [] 0 Lo 0x500000003
 none_is_read_that_was_not_found it = let ready : 0 < 0 = it.ready in absurd (omega (arith, ready))
@@ -334,7 +367,10 @@ nothing_else_is_read it =
     absurd (omega (arith, low, same))
 
 -- x is taken and y is next.
-pub a_read_counts_from_the_head : ¬ MayRead (record x_taken { reserved = item 0 None 0 x ∷ item 0 None 0 y ∷ [] }) (Test 1 1 ∷ []) 0 Lo 0x500000003
+abbrev y_next : World
+y_next = record x_taken { reserved = item 0 None 0 x ∷ item 0 None 0 y ∷ [] }
+
+pub a_read_counts_from_the_head : ¬ MayRead y_next (Test 1 1 ∷ []) 0 Lo 0x500000003
 a_read_counts_from_the_head it =
     let there : item 0 None 0 y ≡ it.item = same_Some (item 0 None 0 y) it.item it.there in
     let low : 0x600000003 ≡ it.item.raw.lo = ap (λ (i : Item). i.raw.lo) there in
@@ -354,15 +390,18 @@ unread_is_not_taken it = none-some _ (it.read 0 x Lo refl)
 pub unread_half_is_not_taken : ¬ MayAdvance (Read 0 Lo 0x500000003 ∷ Test 1 1 ∷ []) (x ∷ [])
 unread_half_is_not_taken it = none-some _ (it.read 0 x Hi refl)
 
-pub an_unread_second_is_not_taken : ¬ MayAdvance (Read 0 Hi 1 ∷ Read 0 Lo 0x500000003 ∷ Test 2 2 ∷ []) (x ∷ x ∷ [])
+pub an_unread_second_is_not_taken :
+    ¬ MayAdvance (Read 0 Hi 1 ∷ Read 0 Lo 0x500000003 ∷ Test 2 2 ∷ []) (x ∷ x ∷ [])
 an_unread_second_is_not_taken it = none-some _ (it.read 1 x Lo refl)
 
 pub what_was_read_is_taken : ¬ MayAdvance (Read 0 Hi 1 ∷ Read 0 Lo 0x600000003 ∷ Test 1 1 ∷ []) (x ∷ [])
 what_was_read_is_taken it =
-    let same : 0x600000003 ≡ 0x500000003 = same_Some 0x600000003 0x500000003 (it.read 0 x Lo refl) in absurd (omega (arith, same))
+    let same : 0x600000003 ≡ 0x500000003 = same_Some 0x600000003 0x500000003 (it.read 0 x Lo refl) in
+    absurd (omega (arith, same))
 
 -- What was read before the newest test doesn't count.
-pub an_old_read_is_not_taken : ¬ MayAdvance (Test 1 1 ∷ Read 0 Hi 1 ∷ Read 0 Lo 0x500000003 ∷ Test 1 1 ∷ []) (x ∷ [])
+pub an_old_read_is_not_taken :
+    ¬ MayAdvance (Test 1 1 ∷ Read 0 Hi 1 ∷ Read 0 Lo 0x500000003 ∷ Test 1 1 ∷ []) (x ∷ [])
 an_old_read_is_not_taken it = none-some _ (it.read 0 x Lo refl)
 
 -- ---- acknowledge
@@ -378,13 +417,16 @@ a_reserved_sync_is_not_taken it = let below : it.position < 0 = it.below in absu
 pub another_command_is_no_sync : ¬ SyncIsTaken x_taken 0 1
 another_command_is_no_sync it = at it.position it.below it.there
   where
-    at : (position : ℕ) → position < 1 → ¬ (slice_get x_taken.reserved position ≡ Some (item 0 (Some 1) it.place (sync_raw 0 1)))
+    at : (position : ℕ) → position < 1
+        → ¬ (slice_get x_taken.reserved position ≡ Some (item 0 (Some 1) it.place (sync_raw 0 1)))
     at zero less there =
-        none-some _ (ap (λ (i : Item). i.number) (same_Some (item 0 None 0 x) (item 0 (Some 1) it.place (sync_raw 0 1)) there))
+        let same = same_Some (item 0 None 0 x) (item 0 (Some 1) it.place (sync_raw 0 1)) there in
+        none-some _ (ap (λ (i : Item). i.number) same)
     at (suc position) less there = absurd (omega (arith, less))
 
 pub none_is_acknowledged_untaken : ¬ MayAcknowledge opening 0 1
-none_is_acknowledged_untaken it = let below : it.taken.position < 0 = it.taken.below in absurd (omega (arith, below))
+none_is_acknowledged_untaken it =
+    let below : it.taken.position < 0 = it.taken.below in absurd (omega (arith, below))
 
 -- The second number is acknowledged first.
 pub no_number_is_passed_over : ¬ MayAcknowledge both_taken 0 2

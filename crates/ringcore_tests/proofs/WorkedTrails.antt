@@ -58,7 +58,8 @@ a_look_stays_behind_other_steps = refl
 pub a_look_is_spent_by_a_won_exchange : looked (Won (x ∷ []) None ∷ Look empty ∷ []) ≡ None
 a_look_is_spent_by_a_won_exchange = refl
 
-pub a_look_is_spent_by_a_lost_exchange : looked (Lost (x ∷ []) false (shows 1 1 0 false) ∷ Look empty ∷ []) ≡ None
+pub a_look_is_spent_by_a_lost_exchange :
+    looked (Lost (x ∷ []) false (shows 1 1 0 false) ∷ Look empty ∷ []) ≡ None
 a_look_is_spent_by_a_lost_exchange = refl
 
 pub nothing_is_looked_at_first : looked [] ≡ None
@@ -156,10 +157,12 @@ pub nothing_is_flipped_at_first : has_flipped 0 [] ≡ false
 nothing_is_flipped_at_first = refl
 
 pub an_unflipped_reservation_is_open : ¬ IsSettled (Won (x ∷ []) None ∷ [])
-an_unflipped_reservation_is_open settled = let flipped : false ≡ true = settled 0 (omega arith) in absurd (cc)
+an_unflipped_reservation_is_open settled =
+    let flipped : false ≡ true = settled 0 (omega arith) in absurd (cc)
 
 pub a_reservation_flipped_in_part_is_open : ¬ IsSettled (Flip 0 1 ∷ Won (x ∷ y ∷ []) None ∷ [])
-a_reservation_flipped_in_part_is_open settled = let flipped : false ≡ true = settled 1 (omega arith) in absurd (cc)
+a_reservation_flipped_in_part_is_open settled =
+    let flipped : false ≡ true = settled 1 (omega arith) in absurd (cc)
 
 -- It may be flipped by several steps, in any order.
 pub a_reservation_flipped_by_parts_is_settled : IsSettled (Flip 0 1 ∷ Flip 1 1 ∷ Won (x ∷ y ∷ []) None ∷ [])
@@ -204,7 +207,8 @@ an_advance_makes_it_unknown = refl
 pub nothing_is_known_at_first : half_read 0 Lo [] ≡ None
 nothing_is_known_at_first = refl
 
-pub the_commands_taken_are_in_order : raws_by (Acknowledge 0 1 ∷ Advance (y ∷ []) ∷ Test 1 1 ∷ Advance (x ∷ x ∷ []) ∷ []) ≡ x ∷ x ∷ y ∷ []
+pub the_commands_taken_are_in_order :
+    raws_by (Acknowledge 0 1 ∷ Advance (y ∷ []) ∷ Test 1 1 ∷ Advance (x ∷ x ∷ []) ∷ []) ≡ x ∷ x ∷ y ∷ []
 the_commands_taken_are_in_order = refl
 
 pub nothing_is_taken_at_first : raws_by [] ≡ []

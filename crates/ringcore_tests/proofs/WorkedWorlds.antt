@@ -21,7 +21,8 @@ illegal = record { lo = 0; hi = 0 }
 -- ---- what is reserved
 
 -- CMD_SYNC with the number as MSIData, to the sender's cell
-pub a_sync_has_its_number_and_its_sender_s_cell : sync_raw 1 2 ≡ record { lo = 0x200001046; hi = 0x40000004 }
+pub a_sync_has_its_number_and_its_sender_s_cell :
+    sync_raw 1 2 ≡ record { lo = 0x200001046; hi = 0x40000004 }
 unfolding encoding
 a_sync_has_its_number_and_its_sender_s_cell = refl
 
@@ -34,7 +35,8 @@ a_batch_without_one_has_no_sync = refl
 pub places_count_on : items_from 3 1 None (x ∷ y ∷ []) ≡ item 1 None 3 x ∷ item 1 None 4 y ∷ []
 places_count_on = refl
 
-pub a_batch_s_places_begin_with_0 : items 1 (Some 2) (x ∷ []) ≡ item 1 (Some 2) 0 x ∷ item 1 (Some 2) 1 (sync_raw 1 2) ∷ []
+pub a_batch_s_places_begin_with_0 :
+    items 1 (Some 2) (x ∷ []) ≡ item 1 (Some 2) 0 x ∷ item 1 (Some 2) 1 (sync_raw 1 2) ∷ []
 a_batch_s_places_begin_with_0 = refl
 
 -- ---- what is taken
@@ -97,7 +99,8 @@ it_is_as_before_elsewhere = refl
 abbrev y_reserved : World
 y_reserved = after one_left (Sender 0) (Won (y ∷ []) None)
 
-pub what_is_reserved_comes_behind : y_reserved.reserved ≡ item 1 None 0 x ∷ item 1 None 1 y ∷ item 0 None 0 y ∷ []
+pub what_is_reserved_comes_behind :
+    y_reserved.reserved ≡ item 1 None 0 x ∷ item 1 None 1 y ∷ item 0 None 0 y ∷ []
 what_is_reserved_comes_behind = refl
 
 pub a_reservation_starts_at_the_tail : y_reserved.start 0 ≡ 2
@@ -137,7 +140,9 @@ the_position_of_another_is_unflipped = refl
 pub what_was_flipped_stays_flipped : (after y_flipped (Sender 1) (Flip 0 1)).flipped 2 ≡ true
 what_was_flipped_stays_flipped = refl
 
-pub what_is_taken_comes_behind : (after one_left Consumer (Advance (y ∷ illegal ∷ []))).taken ≡ taken_as x ∷ taken_as y ∷ taken_as illegal ∷ []
+pub what_is_taken_comes_behind :
+    (after one_left Consumer (Advance (y ∷ illegal ∷ []))).taken
+    ≡ taken_as x ∷ taken_as y ∷ taken_as illegal ∷ []
 what_is_taken_comes_behind = refl
 
 pub a_close_closes : (after one_left (Sender 0) Close).closed ≡ true
@@ -171,7 +176,13 @@ pub a_look_finds_a_closed_ring : control 1 (record one_left { closed = true }) �
 a_look_finds_a_closed_ring = refl
 
 -- Position 4 has index 0 again in a ring of two slots.
-pub a_look_finds_indexes : control 1 (record one_left { reserved = item 1 None 0 x ∷ item 1 None 1 y ∷ item 0 None 0 x ∷ item 0 None 1 y ∷ []; taken = taken_as x ∷ taken_as y ∷ [] }) ≡ shows 1 0 2 false
+abbrev a_lap_later : World
+a_lap_later = record opening {
+  reserved = item 1 None 0 x ∷ item 1 None 1 y ∷ item 0 None 0 x ∷ item 0 None 1 y ∷ [];
+  taken = taken_as x ∷ taken_as y ∷ [];
+}
+
+pub a_look_finds_indexes : control 1 a_lap_later ≡ shows 1 0 2 false
 a_look_finds_indexes = refl
 
 pub a_low_half_is_the_low_word : half_of Lo x ≡ 0x500000003
