@@ -1,11 +1,10 @@
 -- What the definitions say of the MSI that completes a CMD_SYNC.
-use Rattle.std.proofs.Common.{◌≡◌, ◌≢◌, ◌⊎◌, inl, inr, ℕ, ◌+◌, ◌-◌, ◌%◌, ◌^◌, ◌<◌, ◌≤◌, List, [], ◌∷◌, length, None, refl, arith}
+use Rattle.std.proofs.Common.{◌≡◌, inl, inr, ℕ, List, [], ◌∷◌, None, refl, arith}
 use Rattle.cmdcodec.specs.declared.raw.Raw.{Raw}
-use Rattle.hardware_queue.specs.declared.register_words.RegisterWords.{RegisterWords}
 use Rattle.hardware_queue.specs.Queues.{QueueValue, plain_sync}
 use Rattle.hardware_queue.specs.declared.command_error.CommandError.TheVariants.{Illegal}
 use Rattle.hardware_queue.specs.declared.state.QueueState.TheVariants.{Running, Stopped}
-use Rattle.hardware_queue.specs.Supplying.{CanHave, again_after}
+use Rattle.hardware_queue.specs.Supplying.{CanHave}
 use Rattle.shadow_queue.specs.Messages.{message_of, IsToldUpTo, words_at, HasHeard, SaysNothing, IsUnheard, WentOnBehindRestart}
 
 -- a queue of two slots that was shown so many CMD_SYNCs, of which so many are consumed
@@ -49,12 +48,6 @@ restarted again q = record q { supplied = record q.supplied { again = again } }
 
 abbrev pub two_in_flight : QueueValue
 two_in_flight = queue (plain_sync ∷ plain_sync ∷ []) 0
-
-pub what_is_in_flight_is_read_again : again_after two_in_flight ≡ 2
-what_is_in_flight_is_read_again = refl
-
-pub what_is_consumed_is_not_read_again : again_after (queue (plain_sync ∷ plain_sync ∷ []) 2) ≡ 0
-what_is_consumed_is_not_read_again = refl
 
 -- What the MSI of the first says is that of none behind the restart.
 pub a_message_of_before_a_restart_is_another : ¬ IsToldUpTo 1 (message_of 1 two_in_flight) (restarted 2 two_in_flight)

@@ -8,3 +8,4 @@ pub mod Kept
 pub mod Crossing
 pub mod Holding
 pub mod WorkedProgress
+pub mod WorkedHistories

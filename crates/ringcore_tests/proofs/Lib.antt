@@ -6,3 +6,8 @@ pub mod WorkedCounterexamples
 pub mod WorkedTold
 pub mod WorkedLimits
 pub mod WorkedShadows
+pub mod WorkedSteps
+pub mod WorkedTrails
+pub mod WorkedWorlds
+pub mod WorkedOrder
+pub mod WorkedLayout

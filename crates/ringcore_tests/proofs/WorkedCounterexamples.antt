@@ -1,6 +1,6 @@
 -- What the definitions of order refuse: for each a list of events, or a world, of which it is false.
 use Rattle.std.proofs.Common.{◌≡◌, ℕ, zero, suc, ◌+◌, true, false, List, [], ◌∷◌, ◌++◌, length, Option, Some, None, refl, sym, ap, ap₂, ◌∙◌, arith}
-use Rattle.std.proofs.lemmas.Option.{same_Some}
+use Rattle.std.proofs.lemmas.Option.{none-some, same_Some}
 use Rattle.std.specs.Prelude.{slice_get}
 use Rattle.cmdcodec.specs.declared.raw.Raw.{Raw}
 use Rattle.qindex.specs.declared.control.Control.{Control}
@@ -165,6 +165,25 @@ another_is_not_completed it =
     let ahead : joined it.ahead ++ it.body ≡ x ∷ [] = ap₂ (λ ahead (b : Batch). joined ahead ++ b.body) only.0 (sym only.1) in
     let same : 0x600000003 ≡ 0x500000003 = ap first_lo it.all_ahead.1 ∙ ap (λ raws. first_lo (raws ++ it.all_ahead.0)) ahead in
     absurd (omega (arith, same))
+
+-- It is taken, and its closing sync isn't.
+abbrev sync_untaken : Run
+sync_untaken = (Consumer, Advance (x ∷ [])) ∷ only_reserved
+
+pub untaken_sync_is_not_completed : ¬ IsCompleted sync_untaken 1 1
+untaken_sync_is_not_completed it =
+    let reserved : Batch = record { sender = 1; number = Some 1; body = x ∷ [] } in
+    let only = only_one it.ahead it.behind reserved (record reserved { body = it.body }) it.reserved in
+    let ahead : joined it.ahead ++ it.body ≡ x ∷ [] = ap₂ (λ ahead (b : Batch). joined ahead ++ b.body) only.0 (sym only.1) in
+    none-some _ (ap (λ (raws : List Raw). slice_get (x ∷ []) (length raws)) (sym ahead) ∙ it.sync)
+
+-- A closing sync is taken that nobody reserved.
+pub unreserved_is_not_completed : ¬ IsCompleted ((Consumer, Advance (sync_raw 1 1 ∷ [])) ∷ []) 1 1
+unreserved_is_not_completed it = nothing_is_more it.ahead (record { sender = 1; number = Some 1; body = it.body }) it.behind it.reserved
+  where
+    nothing_is_more : (ahead : List Batch) (b : Batch) (behind : List Batch) → ¬ ([] ≡ ahead ++ b ∷ behind)
+    nothing_is_more [] b behind is = absurd (cc)
+    nothing_is_more (a ∷ ahead) b behind is = absurd (cc)
 
 -- ---- each sender's batches in order, and each batch in its place
 
