@@ -65,8 +65,8 @@ a_position_a_lap_later_has_the_same_data_word = refl
 pub cells_begin_behind_the_unused_words : first_cell 7 ≡ 280
 cells_begin_behind_the_unused_words = refl
 
-pub the_first_cell_is_the_first_sender_s : cell 7 0 ≡ 280
-the_first_cell_is_the_first_sender_s = refl
+pub the_first_cell_is_that_of_the_first_sender : cell 7 0 ≡ 280
+the_first_cell_is_that_of_the_first_sender = refl
 
 -- ---- the flags
 

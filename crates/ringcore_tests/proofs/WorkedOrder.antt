@@ -49,8 +49,8 @@ a_batch_without_a_number_adds_none = refl
 abbrev four_batches : List Batch
 four_batches = batch 0 (Some 1) x ∷ batch 1 (Some 1) y ∷ batch 0 None x ∷ batch 0 (Some 2) y ∷ []
 
-pub numbers_are_a_sender_s_own : numbers 0 four_batches ≡ 1 ∷ 2 ∷ []
-numbers_are_a_sender_s_own = refl
+pub numbers_are_those_of_the_sender : numbers 0 four_batches ≡ 1 ∷ 2 ∷ []
+numbers_are_those_of_the_sender = refl
 
 pub counts_go_on_from_the_first : counted 1 3 ≡ 1 ∷ 2 ∷ 3 ∷ []
 counts_go_on_from_the_first = refl

@@ -133,9 +133,9 @@ pub no_ask_finds_what_is_not_there : ¬ Allowed ring opening [] (Sender 0) (Ask 
 no_ask_finds_what_is_not_there it = let same : 1 ≡ 0 = it in absurd (omega (arith, same))
 
 -- Sender 0 has the number 1, and sender 1 none.
-pub an_ask_finds_the_sender_s_own_number :
+pub an_ask_finds_its_own_number :
     ¬ Allowed ring (record opening { acknowledged = λ s. cond (s == 0) 1 0 }) [] (Sender 1) (Ask 1)
-an_ask_finds_the_sender_s_own_number it = let same : 1 ≡ 0 = it in absurd (omega (arith, same))
+an_ask_finds_its_own_number it = let same : 1 ≡ 0 = it in absurd (omega (arith, same))
 
 pub none_is_found_where_none_is : ¬ Allowed ring opening [] Consumer (Test 1 1)
 none_is_found_where_none_is it = let ready : false ≡ true = it.ready 0 (omega arith) in absurd (cc)

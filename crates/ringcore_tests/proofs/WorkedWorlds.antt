@@ -21,10 +21,10 @@ illegal = record { lo = 0; hi = 0 }
 -- ---- what is reserved
 
 -- CMD_SYNC with the number as MSIData, to the sender's cell
-pub a_sync_has_its_number_and_its_sender_s_cell :
+pub a_sync_has_its_number_and_the_cell_of_its_sender :
     sync_raw 1 2 ≡ record { lo = 0x200001046; hi = 0x40000004 }
 unfolding encoding
-a_sync_has_its_number_and_its_sender_s_cell = refl
+a_sync_has_its_number_and_the_cell_of_its_sender = refl
 
 pub a_batch_with_a_number_ends_with_its_sync : commands 1 (Some 2) (x ∷ []) ≡ x ∷ sync_raw 1 2 ∷ []
 a_batch_with_a_number_ends_with_its_sync = refl
@@ -35,9 +35,9 @@ a_batch_without_one_has_no_sync = refl
 pub places_count_on : items_from 3 1 None (x ∷ y ∷ []) ≡ item 1 None 3 x ∷ item 1 None 4 y ∷ []
 places_count_on = refl
 
-pub a_batch_s_places_begin_with_0 :
+pub places_of_a_batch_begin_with_0 :
     items 1 (Some 2) (x ∷ []) ≡ item 1 (Some 2) 0 x ∷ item 1 (Some 2) 1 (sync_raw 1 2) ∷ []
-a_batch_s_places_begin_with_0 = refl
+places_of_a_batch_begin_with_0 = refl
 
 -- ---- what is taken
 
@@ -106,8 +106,8 @@ what_is_reserved_comes_behind = refl
 pub a_reservation_starts_at_the_tail : y_reserved.start 0 ≡ 2
 a_reservation_starts_at_the_tail = refl
 
-pub another_s_reservation_starts_where_it_did : y_reserved.start 1 ≡ 0
-another_s_reservation_starts_where_it_did = refl
+pub the_reservation_of_another_starts_where_it_did : y_reserved.start 1 ≡ 0
+the_reservation_of_another_starts_where_it_did = refl
 
 -- and writes the low half of it
 abbrev y_written : World
