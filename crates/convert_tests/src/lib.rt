@@ -8,6 +8,4 @@ mod convert_caller;
 #[cfg(test)]
 mod guest_tests;
 #[cfg(test)]
-mod line_tests;
-#[cfg(test)]
 mod stream_tests;

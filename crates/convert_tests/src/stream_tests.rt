@@ -1,4 +1,4 @@
-//! Reads and writes that fail, and long lines.
+//! Reads and writes that fail.
 use crate::asking::{STREAMS, full, status_of};
 use fake_streams::{Sink, Source};
 use script::Status;
@@ -14,7 +14,7 @@ fn failed_read_leaves_the_whole_lines_answered(rt: HostRuntime) {
     let guest = full(&STREAMS).guest(rt.alloc()).expect(&rt, "a guest");
     let mut input = Source::new(LINES.as_bytes(), 24, 2, PIPE);
     let mut output = Vec::new(rt.alloc());
-    let (status, _) = status_of(rt.alloc(), guest, &mut input, &mut output);
+    let status = status_of(rt.alloc(), guest, &mut input, &mut output);
     assert!(rt; status == Status::ReadFailed && output.as_slice() == b"sync\n".as_slice());
 }
 
@@ -22,18 +22,6 @@ fn failed_read_leaves_the_whole_lines_answered(rt: HostRuntime) {
 fn failed_write_leaves_a_beginning(rt: HostRuntime) {
     let guest = full(&STREAMS).guest(rt.alloc()).expect(&rt, "a guest");
     let mut output = Sink::new(3, 2, PIPE);
-    let (status, _) = status_of(rt.alloc(), guest, &mut LINES.as_bytes(), &mut output);
+    let status = status_of(rt.alloc(), guest, &mut LINES.as_bytes(), &mut output);
     assert!(rt; status == Status::WriteFailed && output.text() == "syn");
-}
-
-#[test]
-fn long_line(rt: HostRuntime) {
-    let mut lines = [b' '; 4098];
-    lines[4097] = b'\n';
-    let guest = full(&STREAMS).guest(rt.alloc()).expect(&rt, "a guest");
-    let mut output = Vec::new(rt.alloc());
-    let (status, _) = status_of(rt.alloc(), guest, &mut lines.as_slice(), &mut output);
-    assert!(rt;
-        status == Status::Refused && output.as_slice() == b"line 1: long line\n".as_slice()
-    );
 }

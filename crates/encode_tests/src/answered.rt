@@ -49,14 +49,3 @@ pub fn expect_answer<A: AllocGlobal + Abort, R: Read>(
     let answer = str::from_utf8(output.as_slice()).unwrap_or("no text");
     assert_eq!(rt; (ended, answer), (status, text));
 }
-
-/// Answers lines, and expects this text and this status.
-pub fn expect_lines<A: AllocGlobal + Abort>(
-    rt: &A,
-    kind: Kind,
-    lines: &str,
-    text: &str,
-    status: Status,
-) {
-    expect_answer(rt, kind, &mut lines.as_bytes(), text, status);
-}

@@ -8,11 +8,7 @@ mod dump_tests;
 #[cfg(test)]
 mod encode_caller;
 #[cfg(test)]
-mod line_tests;
-#[cfg(test)]
 mod log_tests;
-#[cfg(test)]
-mod rows;
 #[cfg(test)]
 mod stream_tests;
 #[cfg(test)]

@@ -21,24 +21,6 @@ const WORKED: [(Kind, &str, &str); 2] = [
 ];
 
 #[test]
-fn longest_line_and_one_byte_more(rt: HostRuntime) {
-    let mut line = [b' '; 4098];
-    line[4097] = b'\n';
-    for (kind, _, _) in WORKED {
-        let mut longer = line.as_slice();
-        expect_answer(
-            &rt,
-            kind,
-            &mut longer,
-            "line 1: long line\n",
-            Status::Refused,
-        );
-        let mut longest = &line[1..];
-        expect_answer(&rt, kind, &mut longest, "", Status::Good);
-    }
-}
-
-#[test]
 fn failed_read_leaves_the_whole_lines_answered(rt: HostRuntime) {
     for (kind, lines, first) in WORKED {
         let mut input = Source::new(lines.as_bytes(), 24, 2, PIPE);

@@ -13,5 +13,3 @@ mod image_caller;
 mod image_tests;
 #[cfg(test)]
 mod size_tests;
-#[cfg(test)]
-mod state_tests;

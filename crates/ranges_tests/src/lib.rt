@@ -2,10 +2,6 @@
 #![tactic(auto)]
 
 #[cfg(test)]
-mod asking;
-#[cfg(test)]
-mod fault_tests;
-#[cfg(test)]
 mod range_caller;
 #[cfg(test)]
 mod range_tests;

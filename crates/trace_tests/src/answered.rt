@@ -22,8 +22,3 @@ pub fn expect_answer<A: AllocGlobal + Abort, R: Read>(
     let answer = str::from_utf8(output.as_slice()).unwrap_or("no text");
     assert_eq!(rt; (ended, answer), (status, text));
 }
-
-/// Judges a log, and expects this text and this status.
-pub fn expect_log<A: AllocGlobal + Abort>(rt: &A, log: &str, text: &str, status: Status) {
-    expect_answer(rt, &mut log.as_bytes(), text, status);
-}

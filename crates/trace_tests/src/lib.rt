@@ -4,10 +4,6 @@
 #[cfg(test)]
 mod answered;
 #[cfg(test)]
-mod conduct_tests;
-#[cfg(test)]
-mod log_tests;
-#[cfg(test)]
 mod stream_tests;
 #[cfg(test)]
 mod trace_caller;
