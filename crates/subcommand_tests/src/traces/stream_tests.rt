@@ -1,5 +1,5 @@
 //! Reads and writes that fail in mid-stream.
-use crate::answered::{expect_answer, status_of};
+use crate::traces::answered::{expect_answer, status_of};
 use fake_streams::{Sink, Source};
 use script::Status;
 use std::io::ErrorKind;

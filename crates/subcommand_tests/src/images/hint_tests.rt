@@ -1,5 +1,5 @@
 //! What may help where an image is refused, or can't be right.
-use crate::answered::status_and_hint;
+use crate::images::answered::status_and_hint;
 use image::{Asked, Hint};
 use script::Status;
 

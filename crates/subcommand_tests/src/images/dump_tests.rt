@@ -1,5 +1,5 @@
 //! Queues whose memory comes as the text of a hex dump.
-use crate::answered::status_of;
+use crate::images::answered::status_of;
 use fake_streams::{Sink, Source};
 use image::Asked;
 use script::Status;

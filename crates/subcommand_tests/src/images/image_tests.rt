@@ -1,5 +1,5 @@
 //! The memory of queues. A slot holds lo and then hi, each with its lowest byte first.
-use crate::answered::status_of;
+use crate::images::answered::status_of;
 use fake_streams::{Sink, Source};
 use image::Asked;
 use script::Status;

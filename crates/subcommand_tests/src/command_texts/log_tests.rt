@@ -1,5 +1,5 @@
 //! A kernel's log, from a reader to a writer. Opcodes and fields are those of the command descriptions.
-use crate::answered::{Kind, expect_answer};
+use crate::command_texts::answered::{Kind, expect_answer};
 use fake_streams::{Sink, Source};
 use script::Status;
 use std::io::ErrorKind;

@@ -1,5 +1,5 @@
 //! Lines of both kinds, from a reader to a writer.
-use crate::answered::{Kind, expect_answer};
+use crate::command_texts::answered::{Kind, expect_answer};
 use fake_streams::{Sink, Source};
 use script::Status;
 use std::io::ErrorKind;

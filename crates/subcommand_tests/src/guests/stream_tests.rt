@@ -1,5 +1,5 @@
 //! Reads and writes that fail.
-use crate::asking::{STREAMS, full, status_of};
+use crate::guests::asking::{STREAMS, full, status_of};
 use fake_streams::{Sink, Source};
 use script::Status;
 use std::io::ErrorKind;

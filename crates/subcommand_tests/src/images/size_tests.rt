@@ -1,5 +1,5 @@
 //! The largest queue and one larger, which no run of the program is given.
-use crate::answered::status_of;
+use crate::images::answered::status_of;
 use image::Asked;
 use script::Status;
 use std::process::Abort;

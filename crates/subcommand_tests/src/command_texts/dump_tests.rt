@@ -1,5 +1,5 @@
 //! A hex dump, line by line: slots 4 and 5 of examples/linux/msi-2p7.image, and what `smmuq image` says of them.
-use crate::answered::{Kind, expect_answer};
+use crate::command_texts::answered::{Kind, expect_answer};
 use fake_streams::{Sink, Source};
 use script::Status;
 use std::io::ErrorKind;

@@ -1,2 +1,0 @@
-pub mod WorkedSpellings
-pub mod WorkedWords

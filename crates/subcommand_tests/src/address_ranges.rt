@@ -1,0 +1,3 @@
+//! Tests of ranges.
+mod range_caller;
+mod range_tests;

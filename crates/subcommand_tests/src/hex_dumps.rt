@@ -1,0 +1,2 @@
+//! Tests of hex_dump.
+mod line_tests;
