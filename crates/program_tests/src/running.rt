@@ -75,15 +75,3 @@ pub fn expect_run<'a, A: Threads + AllocGlobal + Abort + Sync>(
     let ran = run(rt, words, script, bad);
     assert_eq!(rt; ran.told(), wanted, "{name}");
 }
-
-/// Runs the program, and expects this status, this text on standard output, and these faults.
-pub fn expect_explained<'a, A: Threads + AllocGlobal + Abort + Sync>(
-    rt: &A,
-    words: &'a [&'a str],
-    script: &str,
-    wanted: (u8, &str, &str),
-) {
-    let ran = run(rt, words, script, (0, 0));
-    let (status, text, _) = ran.told();
-    assert_eq!(rt; (status, text, ran.faults.inner().text()), wanted);
-}

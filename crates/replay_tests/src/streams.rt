@@ -1,5 +1,5 @@
 //! Lines of all kinds in one script, in pieces of several lengths, and from a reader and to a writer that fail.
-use crate::transcripts::{answered, expect_transcript, halves, status_of};
+use crate::transcripts::{answered, halves, status_of};
 use fake_streams::{Sink, Source};
 use script::Status;
 use std::alloc::Global;
@@ -202,16 +202,6 @@ gerror 1 gerrorn 1
 taken 16 applied 14 replaced 2 syncs 5 removed 11
 end
 ";
-
-#[test]
-fn lines_of_all_kinds(rt: HostRuntime) {
-    expect_transcript(
-        &rt,
-        "two drivers, two stops, refusals, and a ring that is closed",
-        Status::Good,
-        TRANSCRIPT,
-    );
-}
 
 /// Replays a script, and expects this status and exactly this text. Reader and writer are each given how many bytes a
 /// call moves at most, and which call fails.

@@ -3,7 +3,6 @@
 use replay::replay;
 use script::Status;
 use std::alloc::{AllocError, Global};
-use std::fmt::Write as _;
 use std::io::{Read, Write};
 use std::process::Abort;
 
@@ -56,44 +55,4 @@ pub fn answered(transcript: &str, bytes: usize) -> usize {
         }
     }
     told
-}
-
-/// Replays the script of a transcript, and expects its answers and this status.
-pub fn expect_transcript<R: AllocGlobal + Abort>(
-    rt: &R,
-    name: &str,
-    status: Status,
-    transcript: &str,
-) {
-    let (script, answers) = halves(rt.alloc(), transcript).expect(rt, "there is memory");
-    expect_answer(rt, name, script.as_bytes(), answers.as_str(), status);
-}
-
-/// Replays each transcript of a text; an empty line separates two. The first line of each, `# good: NAME` or `#
-/// refused: NAME`, says how its run ends.
-pub fn expect_transcripts<R: AllocGlobal + Abort>(rt: &R, transcripts: &str) {
-    let mut heading = String::new(rt.alloc());
-    let mut transcript = String::new(rt.alloc());
-    for line in transcripts.lines() {
-        if line.is_empty() {
-            expect_headed(rt, heading.as_str(), transcript.as_str());
-            heading.clear();
-            transcript.clear();
-        } else if let Some(text) = line.strip_prefix("# ") {
-            heading.push_str(text).expect(rt, line);
-        } else {
-            writeln!(transcript, "{line}").expect(rt, line);
-        }
-    }
-    expect_headed(rt, heading.as_str(), transcript.as_str());
-}
-
-/// Replays the script of a transcript whose heading says how its run ends.
-fn expect_headed<R: AllocGlobal + Abort>(rt: &R, heading: &str, transcript: &str) {
-    let status = match heading.split_once(": ") {
-        Some(("good", _)) => Status::Good,
-        Some(("refused", _)) => Status::Refused,
-        _ => panic!(rt; "{heading}: how does it end?"),
-    };
-    expect_transcript(rt, heading, status, transcript);
 }

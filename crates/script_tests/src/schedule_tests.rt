@@ -1,9 +1,4 @@
-//! What no clause says: schedules and their answers, and readers, writers and allocations that fail.
-mod faults;
-mod flips;
-mod lines;
+//! Readers, writers and allocations that fail while a schedule is played. tests/schedule.cases has schedules and their
+//! answers.
 mod memory;
-mod playing;
-mod runs;
 mod streams;
-mod traps;

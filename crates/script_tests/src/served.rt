@@ -14,21 +14,6 @@ pub fn status_of<R: Read, W: Write>(alloc: Global, input: &mut R, output: &mut W
     schedule(alloc, input, output)
 }
 
-/// Serves a script, and expects this text and this status.
-pub fn expect_answer<R: AllocGlobal + Abort>(
-    rt: &R,
-    name: &str,
-    script: &[u8],
-    text: &str,
-    status: Status,
-) {
-    let mut input = script;
-    let mut output = Vec::new(rt.alloc());
-    let ended = status_of(rt.alloc(), &mut input, &mut output);
-    let answer = str::from_utf8(output.as_slice()).unwrap_or("no text");
-    assert_eq!(rt; (ended, answer), (status, text), "{name}");
-}
-
 /// Serves a script, and expects this status and exactly this text. Reader and writer are each given how many bytes a
 /// call moves at most, and the reader which call fails.
 fn expect_through<R: AllocGlobal + Abort>(
