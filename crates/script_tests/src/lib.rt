@@ -1,8 +1,12 @@
-//! Tests of script, and of schedule, which script serves, for what no run of the program shows; tests/schedule.cases
+//! Tests of script, of schedule, which script serves, and of explanations, for what no run of the program shows; tests/schedule.cases
 //! and tests/replay.cases have the runs. They are in a crate of their own, since building a crate's tests proves the
 //! crate again. Helpers hold what several tests share, since the prover takes long over each loop and each comparison.
 #![tactic(auto)]
 
+#[cfg(test)]
+mod explained_lines;
+#[cfg(test)]
+mod explanations_caller;
 #[cfg(test)]
 mod long_lines;
 #[cfg(test)]

@@ -1,7 +1,0 @@
-//! Tests of explanations, in a crate of their own, since building a crate's tests proves the crate again.
-#![tactic(auto)]
-
-#[cfg(test)]
-mod explanations_caller;
-#[cfg(test)]
-mod lines;
