@@ -3,7 +3,7 @@
 
 Of a function these are its text, the contracts and types of the code that this names, what these name in turn, and the
 definitions of specs/ that all of them reach, in its crate and in those below. Words are taken for names wherever they stand,
-so more is found than is meant, and not less: a value's type stands in what made it, so a method counts where its type was
+so more is found than is meant. One thing is missed: definitions that a trait brings by a `ghost use` of its own. For the rest: a value's type stands in what made it, so a method counts where its type was
 reached and its name stands in the function, or it is of a trait, which an operator or a loop may call. Not among them are other bodies, which a proof of this one doesn't see, and
 proofs/: what is false has no proof, whatever the lemmas are.
 """
