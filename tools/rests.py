@@ -3,9 +3,12 @@
 
 Of a function these are its text, the contracts and types of the code that this names, what these name in turn, and the
 definitions of specs/ that all of them reach, in its crate and in those below. Words are taken for names wherever they stand,
-so more is found than is meant. One thing is missed: definitions that a trait brings by a `ghost use` of its own. For the rest: a value's type stands in what made it, so a method counts where its type was
+so more is found than is meant. A value's type stands in what made it, so a method counts where its type was
 reached and its name stands in the function, or it is of a trait, which an operator or a loop may call. Not among them are other bodies, which a proof of this one doesn't see, and
 proofs/: what is false has no proof, whatever the lemmas are.
+
+Of a file of worked proofs these are its text, those of the files of its kind that it stands on, and the definitions that they reach.
+In which crate of tests they stand decides nothing.
 """
 import collections
 import functools
@@ -17,6 +20,7 @@ import specs
 from repository import below, crate_folder, libraries
 
 WORD = re.compile(r"[A-Za-z_]\w*")
+WORKED = re.compile(r"^use Rattle\.(\w+_tests)\.proofs\.(\w+)", re.M)
 FUNCTION = re.compile(r'( *)(?:pub(?:\([a-z ]+\))? )?(?:const )?(?:unsafe )?(?:extern "C" )?fn (\w+)')
 TYPE = re.compile(r"(?:pub(?:\([a-z ]+\))? )?(?:unsafe )?(?:struct|enum|union|trait|type|const|static) (\w+)")
 
@@ -58,6 +62,11 @@ def statement_of(text, indentation):
     return text
 
 
+def own_ghosts(lines):
+    """The lines `ghost use` inside a trait or an impl."""
+    return "".join(line for line in lines if line.startswith((" ", "\t")) and line.lstrip().startswith("ghost use "))
+
+
 def read_part(file, part, ghosts):
     """The items of one that stands outermost in a file."""
     head = next((line for line in part.splitlines() if line.strip() and not line.startswith("#[")), "")
@@ -65,14 +74,14 @@ def read_part(file, part, ghosts):
     if function:
         return [Item(file, function[2], frozenset(), statement_of(part, 0), part, ghosts)]
     if named:
-        return [Item(file, named[1], frozenset(), part, part, ghosts)]
+        return [Item(file, named[1], frozenset(), part, part, ghosts + own_ghosts(part.splitlines(keepends=True)))]
     if not re.match(r"(unsafe )?impl\b", head):
         return []
     opening, *lines = part[part.index(head):].splitlines(keepends=True)
     while not opening.rstrip().endswith(("{", "{}")) and lines:
         opening += lines.pop(0)
     owners, rest, items = frozenset(WORD.findall(opening)), "", []
-    ghosts += "".join(line for line in lines if line.lstrip().startswith("ghost use "))
+    ghosts += own_ghosts(lines)
     for inner in parts(lines[:-1], 4):
         method = next((FUNCTION.match(line) for line in inner.splitlines() if FUNCTION.match(line)), None)
         if method and len(method[1]) == 4:
@@ -100,10 +109,10 @@ def items_of(crate):
 
 
 @functools.lru_cache(None)
-def scope_of(crate):
-    """The items of a crate and of those below it: those by name that stand alone, methods by type, what impls say by type."""
+def scope_of(crates):
+    """The items of some crates and of those below them: those by name that stand alone, methods by type, what impls say by type."""
     alone, methods, said, called = (collections.defaultdict(list) for _ in range(4))
-    for name in below([crate], libraries(specs.TOP)):
+    for name in below(crates, libraries(specs.TOP)):
         items, others = items_of(name)
         for here, them in others.items():
             called[here] += them
@@ -131,8 +140,8 @@ def defined(path, name):
 class Reach:
     """Collects what some text rests on."""
 
-    def __init__(self, crate, calls):
-        self.alone, self.methods, self.said, self.called = scope_of(crate)
+    def __init__(self, crates, calls):
+        self.alone, self.methods, self.said, self.called = scope_of(tuple(crates))
         self.calls, self.texts = calls, {}
         self.words, self.definitions, self.waiting = set(), set(), []
 
@@ -191,26 +200,45 @@ def function_around(file, crate, place):
 
 def of_function(crate, item, more=""):
     """The texts on which a function rests, with what is to be put into its body."""
-    reach = Reach(crate, set(WORD.findall(item.whole + more)))
+    reach = Reach([crate], set(WORD.findall(item.whole + more)))
     reach.texts[item.file, item.whole] = item.whole
     reach.add_text(item.whole + more, item.ghosts)
     reach.waiting += item.owners
     return reach.close()
 
 
-def of_worked_file(tests, path, text):
+def worked_files(path):
+    """A file of worked proofs and those that it stands on, their texts by their paths."""
+    texts, waiting = {}, [path]
+    while waiting:
+        path = waiting.pop()
+        if path not in texts:
+            texts[path] = specs.read(path)
+            waiting += [f"crates/{crate}/proofs/{name}.antt" for crate, name in WORKED.findall(texts[path])]
+    return texts
+
+
+def of_worked_file(path):
     """The texts on which the worked proofs of a file of a crate of tests rest."""
-    reach = Reach(tests, set())
-    reach.texts[path, text] = text
-    for target in specs.named(text, *specs.imported(text, "use ")):
-        reach.add_definition(*target)
-    return reach.close()
+    files = worked_files(path)
+    named = {crate for text in files.values() for crate in re.findall(r"\bRattle\.(\w+)\.", text) if not crate.endswith("_tests")}
+    reach = Reach(sorted(named & set(libraries(specs.TOP))), set())
+    for at, text in files.items():
+        reach.texts[at, text] = text
+        for target in specs.named(text, *specs.imported(text, "use ")):
+            reach.add_definition(*target)
+    return {(in_any_crate(at), in_any_crate(text)): in_any_crate(text) for (at, _), text in reach.close().items()}
+
+
+def in_any_crate(text):
+    """A text that doesn't say which crate of tests it means."""
+    return re.sub(r"\b(crates/|Rattle\.)\w+_tests(?=[/.])", r"\1tests", text)
 
 
 def of_crate(crate):
     """The texts on which all of a crate rests: its sources and definitions, and what these name below it."""
     items, _ = items_of(crate)
-    reach = Reach(crate, {word for item in items for word in WORD.findall(item.whole)})
+    reach = Reach([crate], {word for item in items for word in WORD.findall(item.whole)})
     for item in items:
         reach.texts[item.file, item.whole] = item.whole
         reach.add_text(item.whole, item.ghosts)
