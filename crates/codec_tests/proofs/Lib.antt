@@ -1,3 +1,4 @@
 pub mod WorkedCommands
 pub mod WorkedControls
 pub mod WorkedIndexes
+pub mod WorkedHints

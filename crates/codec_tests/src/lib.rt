@@ -1,5 +1,5 @@
-//! Tests of cmdcodec, qindex and batch, in a crate of their own, since building a crate's tests proves the crate again.
-//! Most are texts of calls and their answers (`answers`), since a text costs the prover little.
+//! Tests of cmdcodec, qindex, batch and range_hints, in a crate of their own, since building a crate's tests proves the crate
+//! again. Most are texts of calls and their answers (`answers`), since a text costs the prover little.
 #![tactic(auto)]
 
 #[cfg(test)]
@@ -18,3 +18,5 @@ mod numbers;
 mod qindex_caller;
 #[cfg(test)]
 mod qindex_tests;
+#[cfg(test)]
+mod range_hints_tests;

@@ -3,3 +3,16 @@ pub mod WorkedOldEntries
 pub mod WorkedQueueUnits
 pub mod WorkedSettled
 pub mod WorkedCompletions
+pub mod WorkedCovered
+pub mod WorkedCovers
+pub mod WorkedEvictions
+pub mod WorkedFinding
+pub mod WorkedKinds
+pub mod WorkedTagOrder
+pub mod WorkedOutstanding
+pub mod WorkedUnits
+pub mod WorkedEnds
+pub mod WorkedRuns
+pub mod Crossing
+pub mod WorkedBeginnings
+pub mod TakenApart

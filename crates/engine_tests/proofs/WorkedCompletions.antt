@@ -9,7 +9,7 @@ use Rattle.engine.specs.declared.completion.Completion.{Completion}
 use Rattle.engine.specs.declared.answer.RunAnswer.TheVariants.{Applied, Stopped}
 use Rattle.engine.specs.Engines.{EngineValue}
 use Rattle.engine.specs.Completions.{completion_of, completions_of, AreToCells, AreTold, HasTold}
-use Rattle.ringcore_tests.proofs.WorkedCases.{x, y}
+use Rattle.ring_tests.proofs.WorkedCases.{x, y}
 
 abbrev completion_by : ℕ → ℕ → Completion
 completion_by sender number = record { sender = sender; number = number }

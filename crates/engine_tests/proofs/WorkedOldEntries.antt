@@ -27,8 +27,8 @@ use Rattle.engine.specs.Settled.{IsSettled, IsSettledEntry, StaysSettledWith}
 use Rattle.engine.specs.Counting.{CountsValue, how_many, taken}
 use Rattle.engine.specs.Engines.{EngineValue, HasAppliedRun}
 use Rattle.engine.specs.Ends.{NoneIsOlder, reserved_ahead, WasToldTruly, WasToldAllTruly, IsEngineEnd}
-use Rattle.ringcore_tests.proofs.WorkedCases.{x, y}
-use Rattle.ringcore_tests.proofs.WorkedTold.{told_21, told_22}
+use Rattle.ring_tests.proofs.WorkedCases.{x, y}
+use Rattle.ring_tests.proofs.WorkedTold.{told_21, told_22}
 
 -- ---- the entries
 

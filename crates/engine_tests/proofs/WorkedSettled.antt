@@ -22,7 +22,7 @@ use Rattle.ring.specs.Rings.{RingValue}
 use Rattle.engine.specs.Counting.{CountsValue, AreCountsOf, how_many, is_applied, taken}
 use Rattle.engine.specs.Engines.{control_after}
 use Rattle.engine.specs.Settled.{HasCovered}
-use Rattle.ringcore_tests.proofs.WorkedCases.{x, shows}
+use Rattle.ring_tests.proofs.WorkedCases.{x, shows}
 
 -- ---- What was covered.
 

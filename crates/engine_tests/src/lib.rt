@@ -1,6 +1,9 @@
-//! Tests of the engine, in a crate of their own, since building a crate's tests proves the crate again.
+//! Tests of the engine, with modules of tests of caches, of walks and transactions, of the tracked engine and of renewals, in
+//! a crate of their own, since building a crate's tests proves the crate again.
 #![tactic(auto)]
 
+#[cfg(test)]
+mod caches_tests;
 #[cfg(test)]
 mod calls;
 #[cfg(test)]
@@ -14,11 +17,17 @@ mod first_hour;
 #[cfg(test)]
 mod queue_unit_tests;
 #[cfg(test)]
+mod renewal_tests;
+#[cfg(test)]
 mod row_tests;
 #[cfg(test)]
 mod thread_tests;
 #[cfg(test)]
 mod told;
+#[cfg(test)]
+mod tracked_engine_tests;
+#[cfg(test)]
+mod transactions_tests;
 #[cfg(test)]
 mod truly_tests;
 #[cfg(test)]

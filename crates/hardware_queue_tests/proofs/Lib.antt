@@ -4,3 +4,4 @@ pub mod WorkedDoubts
 pub mod WorkedPlacing
 pub mod WorkedOwed
 pub mod WorkedRestarts
+pub mod WorkedOutcomes

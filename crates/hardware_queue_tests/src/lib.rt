@@ -1,8 +1,10 @@
-//! Tests of the hardware queue and its owner, forwarder and unit.
+//! Tests of the hardware queue with its owner and forwarder, of batch_outcomes (`outcomes`), shadow_queue and unit_queue.
 #![tactic(auto)]
 
 #[cfg(test)]
 mod forwarder;
+#[cfg(test)]
+mod outcomes;
 #[cfg(test)]
 mod owner;
 #[cfg(test)]

@@ -2,3 +2,5 @@ pub mod WorkedRegisters
 pub mod WorkedInvalidations
 pub mod WorkedOrders
 pub mod WorkedReaching
+pub mod WorkedRegions
+pub mod WorkedCommands

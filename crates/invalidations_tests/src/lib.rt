@@ -1,4 +1,4 @@
-//! Tests of invalidations, with words worked out by hand or sent by Linux.
+//! Tests of invalidations, with words worked out by hand or sent by Linux, and of regions and smmu_features.
 #![tactic(auto)]
 
 #[cfg(test)]
@@ -15,6 +15,10 @@ mod linux_leaves;
 mod linux_tables;
 #[cfg(test)]
 mod refusals;
+#[cfg(test)]
+mod regions_tests;
+#[cfg(test)]
+mod smmu_features_tests;
 #[cfg(test)]
 mod whole_spaces;
 #[cfg(test)]

@@ -1,6 +1,6 @@
 //! Tests of the program for what no run of it shows: readers, writers and allocations that fail, what is flushed, and
-//! the callers that READMEs show. tests/program.cases and its neighbours have the runs. They are in a crate of their
-//! own, since building a crate's tests proves the crate again.
+//! the callers that READMEs show; and of stress. tests/program.cases and its neighbours have the runs. They are in a crate of
+//! their own, since building a crate's tests proves the crate again.
 #![tactic(auto)]
 
 #[cfg(test)]
@@ -15,6 +15,8 @@ mod decoding_tests;
 mod program_caller;
 #[cfg(test)]
 mod running;
+#[cfg(test)]
+mod stress_tests;
 #[cfg(test)]
 mod stressing_tests;
 #[cfg(test)]

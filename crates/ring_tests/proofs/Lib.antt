@@ -9,3 +9,16 @@ pub mod Crossing
 pub mod Holding
 pub mod WorkedProgress
 pub mod WorkedHistories
+pub mod WorkedCases
+pub mod WorkedTwoLaps
+pub mod WorkedEveryKind
+pub mod WorkedSchedules
+pub mod WorkedCounterexamples
+pub mod WorkedTold
+pub mod WorkedLimits
+pub mod WorkedShadows
+pub mod WorkedSteps
+pub mod WorkedTrails
+pub mod WorkedWorlds
+pub mod WorkedOrder
+pub mod WorkedLayout

@@ -19,8 +19,8 @@ use Rattle.ring.specs.sender.Reserving.{IsWon, control_in}
 use Rattle.ring.specs.consumer.Consumers.{ConsumerValue}
 use Rattle.ring.specs.consumer.Completing.{taken_of}
 use Rattle.ring.specs.Finishing.{SummaryValue, IsEnd}
-use Rattle.ringcore_tests.proofs.WorkedCases.{x, y, shows}
-use Rattle.ringcore_tests.proofs.WorkedTold.{told_22}
+use Rattle.ring_tests.proofs.WorkedCases.{x, y, shows}
+use Rattle.ring_tests.proofs.WorkedTold.{told_22}
 
 -- the low word of the first command
 abbrev first_lo : List Raw → ℕ

@@ -19,7 +19,7 @@ use Rattle.ring.specs.sender.Senders.{SenderValue}
 use Rattle.ring.specs.consumer.Completing.{taken_of}
 use Rattle.ring.specs.consumer.Deferring.{DeferringValue, settled_raws}
 use Rattle.ring.specs.Finishing.{AreAll, reserved_ahead}
-use Rattle.ringcore_tests.proofs.WorkedCases.{x, y}
+use Rattle.ring_tests.proofs.WorkedCases.{x, y}
 
 -- two slots and one sender, with 35 words, which are 0 before its first event
 abbrev ring : Ring

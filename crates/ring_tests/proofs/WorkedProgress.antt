@@ -13,7 +13,7 @@ use Rattle.progress.specs.Contention.{changes, ChangesAreFew, all_losses, AllLos
 use Rattle.progress.specs.Waiting.{IsHeldBy, IsStillHeld, NoneIsOpen, OnlyOneHolds, HoldersAreOpen, WaitingHasAName}
 use Rattle.progress.specs.Draining.{IsByTheConsumer, IsDrained}
 use Rattle.progress.specs.Publishing.{is_independent, publishes, IsPublication, IsPublished, OnlyFinishes, IsFinished}
-use Rattle.ringcore_tests.proofs.WorkedCases.{x, shows}
+use Rattle.ring_tests.proofs.WorkedCases.{x, shows}
 
 abbrev two : Ring
 two = record { geometry = 1; senders = 2; max_batches = 4; flags = 64 }

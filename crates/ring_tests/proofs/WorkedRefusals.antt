@@ -17,7 +17,7 @@ use Rattle.ringcore.specs.RingFaults.{number_fault, IsNotMade}
 use Rattle.ring.specs.sender.Senders.{SenderValue}
 use Rattle.ring.specs.sender.Reserving.{IsTooLong, IsExhausted, IsClosed, IsFull, IsContended, IsRefused, HasLookedAt}
 use Rattle.ring.specs.sender.Sending.{may_pass, HasTried, IsGivenUp}
-use Rattle.ringcore_tests.proofs.WorkedCases.{x, shows}
+use Rattle.ring_tests.proofs.WorkedCases.{x, shows}
 
 -- ---- a ring of two slots, in which each sender may reserve one batch
 

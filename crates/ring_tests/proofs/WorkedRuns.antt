@@ -14,7 +14,7 @@ use Rattle.ring.specs.consumer.Pendings.{PendingValue}
 use Rattle.ring.specs.consumer.Completing.{IsClosingSync, AreClosingSyncs}
 use Rattle.ring.specs.consumer.Taking.{TookUnwritten}
 use Rattle.ring.specs.consumer.PendingConsumers.{HasFoundRun, with_none}
-use Rattle.ringcore_tests.proofs.WorkedCases.{x, shows}
+use Rattle.ring_tests.proofs.WorkedCases.{x, shows}
 
 -- ---- a take of a kept run
 

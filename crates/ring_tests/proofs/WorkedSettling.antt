@@ -10,7 +10,7 @@ use Rattle.ring.specs.sender.Senders.{SenderValue}
 use Rattle.ring.specs.consumer.Consumers.{ConsumerValue}
 use Rattle.ring.specs.consumer.Deferring.{DeferringValue, IsDeferring, settled_raws}
 use Rattle.ring.specs.Finishing.{SummaryValue, WasToldOfSettled, IsEnd, IsDeferredEnd}
-use Rattle.ringcore_tests.proofs.WorkedCases.{x}
+use Rattle.ring_tests.proofs.WorkedCases.{x}
 
 -- ---- what is acknowledged
 

@@ -11,8 +11,8 @@ use Rattle.ring.specs.Rings.{RingValue}
 use Rattle.ring.specs.sender.Senders.{SenderValue, HasAsked}
 use Rattle.ring.specs.consumer.Consumers.{ConsumerValue}
 use Rattle.ring.specs.Finishing.{WasTold, SummaryValue, IsEnd}
-use Rattle.ringcore_tests.proofs.WorkedCases.{x}
-use Rattle.ringcore_tests.proofs.WorkedTold.{told_22}
+use Rattle.ring_tests.proofs.WorkedCases.{x}
+use Rattle.ring_tests.proofs.WorkedTold.{told_22}
 
 -- ---- an ask
 

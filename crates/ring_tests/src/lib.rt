@@ -1,4 +1,5 @@
-//! Tests of the running ring, in a crate of their own, since building a crate's tests proves the crate again.
+//! Tests of the running ring, of ringcore (`ringcore_tests`) and of progress, in a crate of their own, since building a
+//! crate's tests proves the crate again.
 #![tactic(auto)]
 
 #[cfg(test)]
@@ -21,6 +22,10 @@ mod keeper_tests;
 mod reserving;
 #[cfg(test)]
 mod ring_caller;
+#[cfg(test)]
+mod ringcore_caller;
+#[cfg(test)]
+mod ringcore_tests;
 #[cfg(test)]
 mod run_tests;
 #[cfg(test)]

@@ -1,5 +1,0 @@
-pub mod Streams
-pub mod WorkedCommands
-pub mod WorkedSteps
-pub mod WorkedNext
-pub mod WorkedChanges

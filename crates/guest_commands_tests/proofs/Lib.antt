@@ -1,2 +1,0 @@
-pub mod WorkedGuests
-pub mod WorkedTheorems

@@ -1,0 +1,9 @@
+pub mod WorkedGuests
+pub mod WorkedTheorems
+pub mod WorkedTables
+pub mod WorkedForwarding
+pub mod Streams
+pub mod WorkedCommands
+pub mod WorkedSteps
+pub mod WorkedNext
+pub mod WorkedChanges

@@ -1,0 +1,5 @@
+//! Tests of guest_table.
+mod making;
+mod moving;
+mod refusals;
+mod table_caller;

@@ -1,7 +1,0 @@
-//! Tests of ringcore, in a crate of their own, since building a crate's tests proves the crate again.
-#![tactic(auto)]
-
-#[cfg(test)]
-mod ringcore_caller;
-#[cfg(test)]
-mod ringcore_tests;

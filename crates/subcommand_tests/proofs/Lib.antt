@@ -1,6 +1,0 @@
-pub mod WorkedSpellings
-pub mod WorkedWords
-pub mod WorkedDumps
-pub mod WorkedRanges
-pub mod WorkedAnswers
-pub mod WorkedGuests
