@@ -2,5 +2,5 @@
 mod lengths;
 mod pieces;
 mod serving;
+mod splitting;
 mod watching;
-mod words;
