@@ -20,6 +20,11 @@ def rattle():
     return os.path.join(kit(), "bin", "rattle")
 
 
+def keeps_proofs():
+    """Whether `rt ci` leaves out what it proved before, but with --anew, and takes the names of crates. Not every kit's does."""
+    return "--anew" in subprocess.run(["rt", "help"], stdout=subprocess.PIPE, stderr=subprocess.STDOUT, text=True).stdout
+
+
 @dataclass(frozen=True)
 class Crate:
     """A line of crates.txt."""
