@@ -2,7 +2,11 @@
 #![tactic(auto)]
 
 #[cfg(test)]
+mod calls;
+#[cfg(test)]
 mod forwarder;
+#[cfg(test)]
+mod forwarder_calls;
 #[cfg(test)]
 mod outcomes;
 #[cfg(test)]
