@@ -31,7 +31,6 @@ class Crate:
 
     name: str
     uses: tuple
-    is_static_library: bool
 
 
 def crates_in(text):
@@ -39,9 +38,8 @@ def crates_in(text):
     found = {}
     for line in text.splitlines():
         head, colon, uses = line.partition("#")[0].partition(":")
-        name, *words = head.split() or [""]
         if colon:
-            found[name] = Crate(name, tuple(uses.split()), "staticlib" in words)
+            found[head.strip()] = Crate(head.strip(), tuple(uses.split()))
     return found
 
 
@@ -54,10 +52,6 @@ def crates(top=TOP):
 def libraries(top=TOP):
     """What each crate uses."""
     return {name: list(crate.uses) for name, crate in crates(top).items()}
-
-
-def static_libraries(top=TOP):
-    return {name for name, crate in crates(top).items() if crate.is_static_library}
 
 
 def below(names, uses):
