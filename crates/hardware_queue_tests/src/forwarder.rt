@@ -1,10 +1,9 @@
 //! Senders, a ring, a forwarder, and a unit as the hardware.
 ghost use Rattle.std.specs.Prelude.{◌≡◌, []};
 
-use crate::calls::expect_answers;
-use crate::words::{CFGI_STE, ILLEGAL, owner};
+use crate::words::{CFGI_STE, ILLEGAL, UNSUPPORTED, owner};
 use batch::Batch;
-use hardware_queue::{BatchOutcome, Forwarded, Forwarder, Progress};
+use hardware_queue::{BatchOutcome, CommandError, Forwarded, Forwarder, Progress, Remedy, Stopped};
 use ring::{Ring, RingFault, Sender, Summary};
 use std::alloc::AllocError;
 use std::process::Abort;
@@ -75,7 +74,7 @@ fn an_illegal_command_stays_here(rt: HostRuntime) -> Result<(), RingFault> {
     let mut forwarder = made.expect(&rt, "memory");
     let commands = [ILLEGAL, CFGI_STE];
     let batch = Batch::from_raws(commands.as_slice()).expect(&rt, "no CMD_SYNC");
-    let Ok((sender, receipt)) = sender.send(&ring, &batch, 1) else {
+    let Ok((sender, _receipt)) = sender.send(&ring, &batch, 1) else {
         panic!(rt; "the batch is refused");
     };
     forward(&rt, &ring, &mut forwarder, Forwarded::Replaced(ILLEGAL));
@@ -84,7 +83,6 @@ fn an_illegal_command_stays_here(rt: HostRuntime) -> Result<(), RingFault> {
     poll(&rt, &ring, &mut forwarder, Progress::Consumed(1));
     assert_eq!(rt; forwarder.in_flight(), 0);
     forward(&rt, &ring, &mut forwarder, Forwarded::Shown(1));
-    assert_eq!(rt; forwarder.outcome(&receipt), BatchOutcome::NotYet);
     let (summary, _queue) = finish(ring, senders, sender, forwarder).expect(&rt, "memory");
     // Its CMD_SYNC is in flight.
     assert_eq!(rt; (summary.reserved(), summary.taken()), (3, 3));
@@ -92,80 +90,99 @@ fn an_illegal_command_stays_here(rt: HostRuntime) -> Result<(), RingFault> {
 }
 
 #[test]
-fn an_unsupported_command_is_lost(rt: HostRuntime) {
-    // The unit stops as it reads it, and the next look finds that. Then the CMD_SYNC in its place is consumed, and the sender's own.
-    expect_answers(
-        &rt,
-        3,
-        1,
-        "send unsupported = 1\n\
-         forward = Shown(2)\n\
-         poll = Consumed(0)\n\
-         poll = Stopped { consumed: 0, error: Illegal }\n\
-         stopped = Some(Stopped { command: Raw { lo: 21474836486, hi: 0 }, error: Illegal })\n\
-         replace = Ok(Stopped { command: Raw { lo: 21474836486, hi: 0 }, error: Illegal })\n\
-         stopped = None\n\
-         lost = 1\n\
-         2 times poll = Consumed(1)\n\
-         done = 1\n\
-         outcome 1 = Lost(1)",
-    );
+fn an_unsupported_command_is_lost(rt: HostRuntime) -> Result<(), RingFault> {
+    let (ring, mut senders, consumer) = Ring::new(rt.alloc(), 3, 1, 100)?;
+    let sender = senders.pop().expect(&rt, "one sender");
+    let made = Forwarder::new(rt.alloc(), consumer, owner(&rt, 1), 1);
+    let mut forwarder = made.expect(&rt, "memory");
+    let batch = Batch::new(UNSUPPORTED).expect(&rt, "no CMD_SYNC");
+    let Ok((mut sender, receipt)) = sender.send(&ring, &batch, 1) else {
+        panic!(rt; "the batch is refused");
+    };
+    forward(&rt, &ring, &mut forwarder, Forwarded::Shown(2));
+    // The unit stops as it reads it, and the next look finds that.
+    poll(&rt, &ring, &mut forwarder, Progress::Consumed(0));
+    let error = CommandError::Illegal;
+    let stop = Progress::Stopped { consumed: 0, error };
+    poll(&rt, &ring, &mut forwarder, stop);
+    let command = UNSUPPORTED;
+    let stopped = Stopped { command, error };
+    assert_eq!(rt; forwarder.stopped(), Some(stopped));
+    assert_eq!(rt; forwarder.acknowledge(Remedy::Replace), Ok(stopped));
+    assert_eq!(rt; forwarder.lost(), 1);
+    // The CMD_SYNC in its place, and then the sender's own.
+    poll(&rt, &ring, &mut forwarder, Progress::Consumed(1));
+    poll(&rt, &ring, &mut forwarder, Progress::Consumed(1));
+    assert!(rt; sender.is_done(&ring, &receipt));
+    assert_eq!(rt; forwarder.outcome(&receipt), BatchOutcome::Lost(1));
+    Ok(())
 }
 
 #[test]
-fn a_restart_reads_again_what_is_not_consumed(rt: HostRuntime) {
-    // Nobody acknowledges the error ahead of the first restart, so it stops there again. What was written over stays so.
-    expect_answers(
-        &rt,
-        3,
-        2,
-        "retry = Err(NotStopped)\n\
-         send legal unsupported = 1\n\
-         forward = Shown(3)\n\
-         poll = Consumed(1)\n\
-         poll = Consumed(0)\n\
-         poll = Stopped { consumed: 0, error: Illegal }\n\
-         restart = restarted\n\
-         in flight = 2\n\
-         poll = Consumed(0)\n\
-         poll = Stopped { consumed: 0, error: Illegal }\n\
-         replace = Ok(Stopped { command: Raw { lo: 21474836486, hi: 0 }, error: Illegal })\n\
-         restart = restarted\n\
-         poll = Consumed(1)\n\
-         done = 0\n\
-         poll = Consumed(1)\n\
-         done = 1\n\
-         outcome 1 = Lost(1)",
-    );
+fn a_restart_reads_again_what_is_not_consumed(rt: HostRuntime) -> Result<(), RingFault> {
+    let (ring, mut senders, consumer) = Ring::new(rt.alloc(), 3, 1, 100)?;
+    let sender = senders.pop().expect(&rt, "one sender");
+    let made = Forwarder::new(rt.alloc(), consumer, owner(&rt, 2), 1);
+    let mut forwarder = made.expect(&rt, "memory");
+    let commands = [CFGI_STE, UNSUPPORTED];
+    let batch = Batch::from_raws(commands.as_slice()).expect(&rt, "no CMD_SYNC");
+    let Ok((mut sender, receipt)) = sender.send(&ring, &batch, 1) else {
+        panic!(rt; "the batch is refused");
+    };
+    forward(&rt, &ring, &mut forwarder, Forwarded::Shown(3));
+    poll(&rt, &ring, &mut forwarder, Progress::Consumed(1));
+    poll(&rt, &ring, &mut forwarder, Progress::Consumed(0));
+    let error = CommandError::Illegal;
+    let stop = Progress::Stopped { consumed: 0, error };
+    poll(&rt, &ring, &mut forwarder, stop);
+    // Nobody acknowledged the error: it stops there again.
+    forwarder.restart();
+    assert_eq!(rt; forwarder.in_flight(), 2);
+    poll(&rt, &ring, &mut forwarder, Progress::Consumed(0));
+    poll(&rt, &ring, &mut forwarder, stop);
+    assert!(rt; forwarder.acknowledge(Remedy::Replace).is_ok());
+    // What was written over stays so.
+    forwarder.restart();
+    poll(&rt, &ring, &mut forwarder, Progress::Consumed(1));
+    assert!(rt; !sender.is_done(&ring, &receipt));
+    poll(&rt, &ring, &mut forwarder, Progress::Consumed(1));
+    assert!(rt; sender.is_done(&ring, &receipt));
+    assert_eq!(rt; forwarder.outcome(&receipt), BatchOutcome::Lost(1));
+    assert_eq!(rt; forwarder.outcome_of(0, 1), BatchOutcome::Lost(1));
+    Ok(())
 }
 
 #[test]
-fn an_illegal_command_between_two_batches(rt: HostRuntime) {
+fn an_illegal_command_between_two_batches(rt: HostRuntime) -> Result<(), RingFault> {
+    let (ring, mut senders, consumer) = Ring::new(rt.alloc(), 3, 1, 100)?;
+    let sender = senders.pop().expect(&rt, "one sender");
+    let made = Forwarder::new(rt.alloc(), consumer, owner(&rt, 3), 1);
+    let mut forwarder = made.expect(&rt, "memory");
+    let legal = Batch::new(CFGI_STE).expect(&rt, "no CMD_SYNC");
+    let Ok((sender, first)) = sender.send(&ring, &legal, 1) else {
+        panic!(rt; "the batch is refused");
+    };
+    let commands = [ILLEGAL, CFGI_STE];
+    let batch = Batch::from_raws(commands.as_slice()).expect(&rt, "no CMD_SYNC");
+    let Ok((mut sender, second)) = sender.send(&ring, &batch, 1) else {
+        panic!(rt; "the batch is refused");
+    };
+    forward(&rt, &ring, &mut forwarder, Forwarded::Shown(2));
+    forward(&rt, &ring, &mut forwarder, Forwarded::Replaced(ILLEGAL));
+    forward(&rt, &ring, &mut forwarder, Forwarded::Shown(2));
+    poll(&rt, &ring, &mut forwarder, Progress::Consumed(1));
+    assert_eq!(rt; (forwarder.in_flight(), sender.done_up_to(&ring)), (4, 0));
     // The illegal one is settled with the CMD_SYNC ahead of it.
-    expect_answers(
-        &rt,
-        3,
-        3,
-        "send legal = 1\n\
-         send illegal legal = 2\n\
-         forward = Shown(2)\n\
-         forward = Replaced(Raw { lo: 255, hi: 0 })\n\
-         forward = Shown(2)\n\
-         forward = Empty\n\
-         poll = Consumed(1)\n\
-         in flight = 4\n\
-         done = 0\n\
-         poll = Consumed(1)\n\
-         in flight = 2\n\
-         done = 1\n\
-         outcome 1 = Complete\n\
-         outcome 2 = NotYet\n\
-         2 times poll = Consumed(1)\n\
-         in flight = 0\n\
-         done = 2\n\
-         outcome 1 = Complete\n\
-         outcome 2 = Lost(1)",
-    );
+    poll(&rt, &ring, &mut forwarder, Progress::Consumed(1));
+    assert_eq!(rt; (forwarder.in_flight(), sender.done_up_to(&ring)), (2, 1));
+    assert_eq!(rt; forwarder.outcome(&first), BatchOutcome::Complete);
+    assert_eq!(rt; forwarder.outcome(&second), BatchOutcome::NotYet);
+    poll(&rt, &ring, &mut forwarder, Progress::Consumed(1));
+    poll(&rt, &ring, &mut forwarder, Progress::Consumed(1));
+    assert_eq!(rt; (forwarder.in_flight(), sender.done_up_to(&ring)), (0, 2));
+    assert_eq!(rt; forwarder.outcome(&first), BatchOutcome::Complete);
+    assert_eq!(rt; forwarder.outcome(&second), BatchOutcome::Lost(1));
+    Ok(())
 }
 
 /// Sends so many batches of eight commands, each of which is shown at once.

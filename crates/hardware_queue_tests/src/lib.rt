@@ -2,11 +2,7 @@
 #![tactic(auto)]
 
 #[cfg(test)]
-mod calls;
-#[cfg(test)]
 mod forwarder;
-#[cfg(test)]
-mod forwarder_calls;
 #[cfg(test)]
 mod outcomes;
 #[cfg(test)]
